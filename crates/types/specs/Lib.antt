@@ -1,0 +1,4 @@
+pub mod Meanings
+pub mod Kinds
+pub mod Patterns
+pub mod Answers
