@@ -1,0 +1,5 @@
+pub mod Stands
+pub mod NumericLaws
+pub mod CodeLaws
+pub mod Lawfulness
+pub mod Knowing
