@@ -1,0 +1,13 @@
+pub mod Verdicts
+pub mod Structure
+pub mod Lines
+pub mod Sections
+pub mod Shape
+pub mod Geometry
+pub mod Reading
+pub mod Writing
+pub mod WellFormed
+pub mod Seen
+pub mod Editions
+pub mod Laws
+pub mod Finding
