@@ -1,0 +1,13 @@
+pub mod Padded
+pub mod Blocks
+pub mod Entries
+pub mod Groups
+pub mod Parts
+pub mod PutTogether
+pub mod Readings
+pub mod Heads
+pub mod Placed
+pub mod Onward
+pub mod Ahead
+pub mod Begun
+pub mod Spots
