@@ -1,4 +1,6 @@
 // The two libraries that ship, numbers and text, as one.
+#![tactic(auto)]
+
 ghost use Rattle.std.specs.Prelude.{◌≡◌};
 ghost use Rattle.base.specs.Known.{knows_of};
 

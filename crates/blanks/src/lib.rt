@@ -1,4 +1,6 @@
 // Blank blocks and blank frames, written into a buffer.
+#![tactic(auto)]
+
 mod block;
 mod contents;
 mod header;

@@ -1,4 +1,6 @@
 // The calls on a form, and lists of them: definitions and their law, which the code of forms cites.
+#![tactic(auto)]
+
 ghost use Rattle.std.specs.Prelude.{◌≡◌};
 ghost use Rattle.types.specs.Kinds.{Known, AllLawful};
 ghost use Rattle.calls.specs.Laws.{EveryListKeepsTheLaw};

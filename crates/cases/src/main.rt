@@ -1,4 +1,6 @@
 // Runs examples through the type libraries and the cutter, and prints a line for each.
+#![tactic(auto)]
+
 mod answers;
 mod ends;
 mod examples;

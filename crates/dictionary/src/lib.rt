@@ -1,4 +1,6 @@
 // Dictionaries: their lines and templates, the check, what is seen at a version, editions.
+#![tactic(auto)]
+
 mod checking;
 mod finding;
 mod geometry;

@@ -1,4 +1,6 @@
 // Runs the check on dictionaries that break one rule or another, and on those at the edge of a rule.
+#![tactic(auto)]
+
 mod draft;
 mod kinds;
 mod names;

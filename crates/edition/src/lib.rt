@@ -1,4 +1,6 @@
 // Editions: whether one dictionary is an earlier edition of another.
+#![tactic(auto)]
+
 ghost use Rattle.std.specs.Prelude.{◌≡◌, ℕ, ◌≤◌, true, Decides};
 ghost use Rattle.types.specs.Kinds.{Known};
 ghost use Rattle.schema.specs.Reading.{version_of, dictionary_of};

@@ -1,4 +1,6 @@
 // Says whether one dictionary is an earlier edition of another.
+#![tactic(auto)]
+
 ghost use Rattle.std.specs.Prelude.{◌≡◌, Some};
 ghost use Rattle.base.specs.Known.{base_kinds};
 ghost use Rattle.schema.specs.Reading.{verdict};

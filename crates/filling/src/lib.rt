@@ -1,4 +1,6 @@
 // What each call on a form does to the bytes of its buffer.
+#![tactic(auto)]
+
 mod adding;
 mod opening;
 mod room;

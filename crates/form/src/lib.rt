@@ -1,4 +1,6 @@
 // Order forms, filled in place in a caller's buffer.
+#![tactic(auto)]
+
 mod closed;
 mod open;
 

@@ -1,4 +1,6 @@
 // Frames: accepted, read and walked.
+#![tactic(auto)]
+
 mod accepted;
 mod accepting;
 mod reading;

@@ -1,4 +1,6 @@
 // Does what the file cases.txt says: accepts frames that break one rule or another and those at the edge of a rule, reads and walks some, and prints a line for each answer.
+#![tactic(auto)]
+
 mod answers;
 mod edit;
 mod shown;

@@ -1,4 +1,6 @@
 // The calls for C: a dictionary is checked, a frame accepted, and a field or a data found in it, under the number types and the text types together.
+#![tactic(auto)]
+
 ghost use Rattle.std.specs.Prelude.{◌≡◌};
 ghost use Rattle.wire.specs.Refusals.{number_of};
 ghost use Rattle.base.specs.Known.{base_kinds};

@@ -1,4 +1,6 @@
 // The verdict on the bytes of a frame.
+#![tactic(auto)]
+
 mod block;
 mod group;
 mod judging;

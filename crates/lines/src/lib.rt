@@ -1,4 +1,6 @@
 // The lines of a dictionary one after the other, as they are seen at a version.
+#![tactic(auto)]
+
 mod fields;
 mod groups;
 mod header;

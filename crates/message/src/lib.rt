@@ -1,4 +1,6 @@
 // What a message is, its frame, and what frames say: definitions and their laws, which the code of frames cites.
+#![tactic(auto)]
+
 ghost use Rattle.std.specs.Prelude.{◌≡◌};
 ghost use Rattle.types.specs.Kinds.{Known, AllLawful};
 ghost use Rattle.message.specs.Laws.{FramesAreMessages, EditionsShareFrames};

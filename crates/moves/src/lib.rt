@@ -1,4 +1,6 @@
 // Bytes put and moved in a buffer.
+#![tactic(auto)]
+
 ghost use Rattle.std.specs.Prelude.{◌≡◌, ◌+◌, ◌-◌, ◌<◌, ◌≤◌, [], ◌∷◌, length, replicate};
 ghost use Rattle.wire.specs.Numbers.{le_bytes};
 ghost use Rattle.moves.specs.Moves.{patched, shifted};

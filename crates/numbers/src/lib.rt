@@ -1,4 +1,6 @@
 // The library of the number types: unsigned, signed, decimal, and one out of a list of codes.
+#![tactic(auto)]
+
 ghost use Rattle.std.specs.Prelude.{◌≡◌};
 ghost use Rattle.numbers.specs.Types.{found_of, number_kinds, is_number_type};
 ghost use Rattle.numbers.specs.Lawfulness.{numbers_lawful};

@@ -1,4 +1,6 @@
 // Fills in forms as a script says.
+#![tactic(auto)]
+
 mod command;
 mod making;
 mod shown;

@@ -1,4 +1,6 @@
 // Where the fields, groups and data of a form lie in the bytes of its frame.
+#![tactic(auto)]
+
 mod blank;
 mod fields;
 mod groups;

@@ -1,4 +1,6 @@
 // Lists of calls on a form, made one after another.
+#![tactic(auto)]
+
 mod asked;
 mod held;
 mod running;

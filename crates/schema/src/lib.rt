@@ -1,4 +1,6 @@
 // What a dictionary says, its rules and its laws: definitions and their proofs, which the code of the dictionary cites.
+#![tactic(auto)]
+
 ghost use Rattle.std.specs.Prelude.{◌≡◌};
 ghost use Rattle.types.specs.Kinds.{Known};
 ghost use Rattle.schema.specs.Laws.{EditionsAgree};

@@ -1,4 +1,6 @@
 // What is done to the bytes of a buffer is what the calls on a form say: definitions and their law, which the code of forms cites.
+#![tactic(auto)]
+
 ghost use Rattle.std.specs.Prelude.{◌≡◌, ℕ, List};
 ghost use Rattle.wire.specs.Bytes.{Bytes};
 ghost use Rattle.types.specs.Kinds.{Known, AllLawful};

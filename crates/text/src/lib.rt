@@ -1,4 +1,6 @@
 // The library of text and investors.
+#![tactic(auto)]
+
 ghost use Rattle.std.specs.Prelude.{◌≡◌, ◌-◌, ◌<◌, ◌≤◌, ◌∷◌, ◌++◌, length, drop, Some};
 ghost use Rattle.std.specs.List.{prefix_len};
 ghost use Rattle.wire.specs.declared.refusal.Reason.{Reason};

@@ -1,4 +1,6 @@
 // What a type library is: types known by number and argument, their patterns and what these mean.
+#![tactic(auto)]
+
 mod joined;
 mod library;
 mod pattern;

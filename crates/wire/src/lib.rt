@@ -1,4 +1,6 @@
 // Refusals, numbers in bytes, and the cutting of a stream into frames.
+#![tactic(auto)]
+
 mod number;
 mod refusal;
 mod stream;

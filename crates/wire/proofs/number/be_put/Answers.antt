@@ -5,5 +5,5 @@ use Rattle.wire.proofs.number.be_put.Goals as goal
 
 pub returns : goal.returns
 returns c =
-    let value = c.reverse.ensures.after ∙ ap reverse c.le-put.ensures.value in
+    let value = c.reverse.ensures.after ∙ ap reverse c.le_put.ensures.value in
     record { value = value; read = λ h. ap be_value value ∙ be_value_of_bytes (length c.args.out.now) c.args.n h }

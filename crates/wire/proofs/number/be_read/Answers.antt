@@ -5,13 +5,13 @@ use Rattle.wire.specs.Numbers.{be_value, be_bytes}
 use Rattle.wire.proofs.Values.{be_turn, be_fits, be_value_below, be_bytes_of_value}
 use Rattle.wire.proofs.number.be_read.Goals as goal
 
-pub overflow-mul-n : goal.overflow-mul-n
-overflow-mul-n c =
+pub overflow_mul-n : goal.overflow_mul-n
+overflow_mul-n c =
     let turn = be_turn c.args.s.now c.loop-b.b-index c.loop-b.n c.loop-b-test.true c.loop-b.invariant in
     Fits-of_lt (omega (arith, turn, be_fits c.args.s.now (c.loop-b.b-index + 1) c.seen.ensures c.requires))
 
-pub overflow-add-n : goal.overflow-add-n
-overflow-add-n c =
+pub overflow_add-n : goal.overflow_add-n
+overflow_add-n c =
     let turn = be_turn c.args.s.now c.loop-b.b-index c.loop-b.n c.loop-b-test.true c.loop-b.invariant in
     Fits-of_lt (omega (arith, turn, be_fits c.args.s.now (c.loop-b.b-index + 1) c.seen.ensures c.requires))
 

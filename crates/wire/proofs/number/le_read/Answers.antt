@@ -8,13 +8,13 @@ use Rattle.wire.proofs.number.le_read.Goals as goal
 pub loop-i-init : goal.loop-i-init
 loop-i-init c = (omega arith, sym (at_drop_all le_value c.args.s.now (length c.args.s.now) (omega arith)))
 
-pub overflow-mul-n : goal.overflow-mul-n
-overflow-mul-n c =
+pub overflow_mul-n : goal.overflow_mul-n
+overflow_mul-n c =
     let turn = le_turn c.args.s.now c.loop-i.i c.loop-i.n c.loop-i-test.true c.loop-i.invariant.0 c.loop-i.invariant.1 in
     Fits-of_lt (omega (arith, turn, le_fits c.args.s.now (c.loop-i.i - 1) c.seen.ensures c.requires))
 
-pub overflow-add-n : goal.overflow-add-n
-overflow-add-n c =
+pub overflow_add-n : goal.overflow_add-n
+overflow_add-n c =
     let turn = le_turn c.args.s.now c.loop-i.i c.loop-i.n c.loop-i-test.true c.loop-i.invariant.0 c.loop-i.invariant.1 in
     Fits-of_lt (omega (arith, turn, le_fits c.args.s.now (c.loop-i.i - 1) c.seen.ensures c.requires))
 
