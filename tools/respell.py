@@ -64,7 +64,20 @@ def declared():
                     names |= set(bound(line))
                 if line.startswith("use "):
                     names |= set(re.findall(r" as ([^\s,}]+)", line))
-    return {n for n in names if re.fullmatch(r"[A-Za-z][\w']*(-[\w']+)+", n)}
+    return {n for n in names if re.fullmatch(r"[A-Za-z][\w']*(-[\w']+)+", n)} - foreign()
+
+
+def foreign():
+    """The names that are imported from elsewhere: they keep their spelling."""
+    crates = set(os.listdir("crates")) | {"compared"}
+    names = set()
+    for path in files(".antt", ".rt"):
+        with open(path) as f:
+            for module, list_of in re.findall(r"use (?:pub )?(\S+)\.\{([^}]*)\}", f.read()):
+                parts = module.split(".")
+                if (parts[1] if parts[0] == "Rattle" else parts[0]) not in crates:
+                    names |= {n.strip().split(" as ")[0].strip() for n in list_of.split(",")}
+    return names
 
 
 def spelled(name):

@@ -1,7 +1,7 @@
 -- What an edition reads in the closed frames of another: what the message has there by the lines of the edition that it was written under.
 use Rattle.std.proofs.Common.{◌≡◌, ℕ, ◌<◌, ◌≤◌, min, cond, eqb, ◌⊎◌, List, [], ◌∷◌, ◌++◌, map, length, get_or, Some, None, Ok, Result, sym, refl, ap, ◌∙◌, subst, ap₂, inl, ⊎_elim, arith}
 use Rattle.std.specs.List.{AllByRecursion as All}
-use Rattle.std.proofs.ByRecursion.{AllWeaker}
+use Rattle.std.proofs.ByRecursion.{All-weaker}
 use Rattle.std.proofs.lemmas.Bool.{eq-eqb, ne_eqb, cases_lt}
 use Rattle.wire.specs.declared.refusal.Refusal.{Refusal}
 use Rattle.types.specs.Meanings.{Meaning, absent}
@@ -164,7 +164,7 @@ module _ (known : Known) (writer reader : List ℕ) (m : Message) (bs : List ℕ
       let fs = g.block.fields in
       let ms = get_or h.entries entry [] in
       let there : entry < length h.entries = subst (λ n. entry < n) (as_many g h) l in
-      AllWeaker (ReadAt (λ f. f.tag) absent fs ms) (λ f. frame_reading known reader bs g.tag entry f.tag ≡ Ok (had_or (message_reading (dictionary_of writer) m g.tag entry f.tag) (means absent)))
+      All-weaker (ReadAt (λ f. f.tag) absent fs ms) (λ f. frame_reading known reader bs g.tag entry f.tag ≡ Ok (had_or (message_reading (dictionary_of writer) m g.tag entry f.tag) (means absent)))
       (λ f k. reads_meaning g.tag entry f.tag k.0
       (in_group g h entry f.tag ∙ h.reads entry f.tag ∙ entry_there fs h.entries g.tag entry f.tag there ∙ ap (λ o. of_field (answered o) f.tag) k.1))
       fs (each_reads (λ f. f.tag) absent fs ms)
@@ -183,10 +183,10 @@ module _ (known : Known) (writer reader : List ℕ) (m : Message) (bs : List ℕ
       let c = m.contents in
       let groups = each_group_reads t.groups c.groups (group_tags_differ t differ) in
       record {
-        root_fields = AllWeaker (ReadAt (λ f. f.tag) absent t.root.fields c.root) _ root_field t.root.fields (each_reads (λ f. f.tag) absent t.root.fields c.root);
-        entry_fields = AllWeaker (GroupRead t.groups c.groups) _ entry_field t.groups groups;
-        no_more_entries = AllWeaker (GroupRead t.groups c.groups) _ no_more t.groups groups;
-        parts = AllWeaker (ReadAt (λ d. d.tag) [] t.parts c.parts) _ part t.parts (each_reads (λ d. d.tag) [] t.parts c.parts);
+        root_fields = All-weaker (ReadAt (λ f. f.tag) absent t.root.fields c.root) _ root_field t.root.fields (each_reads (λ f. f.tag) absent t.root.fields c.root);
+        entry_fields = All-weaker (GroupRead t.groups c.groups) _ entry_field t.groups groups;
+        no_more_entries = All-weaker (GroupRead t.groups c.groups) _ no_more t.groups groups;
+        parts = All-weaker (ReadAt (λ d. d.tag) [] t.parts c.parts) _ part t.parts (each_reads (λ d. d.tag) [] t.parts c.parts);
       }
 
 -- ---- editions

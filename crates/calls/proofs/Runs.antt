@@ -2,7 +2,7 @@
 use Rattle.std.proofs.Common.{◌≡◌, ℕ, ◌≤◌, min, Bool, true, false, cond, leb, List, [], ◌∷◌, ◌++◌, map, length, take, drop, Some, None, Ok, Err, Option, sym, refl, ap, ◌∙◌, subst, arith, length-append, length-drop}
 use Rattle.std.specs.List.{AllByRecursion as All}
 use Rattle.std.proofs.lemmas.List.{take_at, take-append-drop}
-use Rattle.std.proofs.ByRecursion.{AllWeaker}
+use Rattle.std.proofs.ByRecursion.{All-weaker}
 use Rattle.std.proofs.lemmas.Bool.{leb-true, le-leb, and_parts, and_from}
 use Rattle.wire.specs.declared.refusal.Reason.TheVariants as reason
 use Rattle.wire.specs.declared.refusal.Refusal.{Refusal}
@@ -269,6 +269,6 @@ module _ (known : Known) (lawful : AllLawful known) (s : List ℕ) (checked : Ch
             ∙ ap (λ x. after_turn (turn_of known s buffer o) (run_by_buffer known s x buffer' ks)) (same_after st o)
             ∙ ap (after_turn (turn_of known s buffer o)) r.same;
         of_this_form = (said_of_this_form (Good (length buffer)) buffer o g, r.of_this_form);
-        as_long = (long, AllWeaker (λ t. length t.left ≡ length buffer') (λ t. length t.left ≡ length buffer) (λ t e. e ∙ long) (run_by_messages known s st' buffer' ks).turns r.as_long);
+        as_long = (long, All-weaker (λ t. length t.left ≡ length buffer') (λ t. length t.left ≡ length buffer) (λ t e. e ∙ long) (run_by_messages known s st' buffer' ks).turns r.as_long);
         in_front = r.in_front;
       }

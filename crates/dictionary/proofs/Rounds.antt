@@ -1,6 +1,6 @@
 -- The rounds over all templates.
 use Rattle.std.proofs.Common.{◌≡◌, ℕ, suc, ◌+◌, ◌-◌, ◌<◌, ◌≤◌, Bool, true, false, cond, ◌&&◌, eqb, leb, List, [], ◌∷◌, length, drop, Some, None, Ok, Err, Option, Result, sym, refl, ap, ◌∙◌, subst, ap₂, add-one, arith}
-use Rattle.std.proofs.lemmas.Bool.{cond_true, cond_false}
+use Rattle.std.proofs.lemmas.Bool.{cond-true, cond-false}
 use Rattle.wire.specs.declared.refusal.Reason.TheVariants as reason
 use Rattle.wire.specs.declared.refusal.Refusal.{Refusal}
 use Rattle.wire.specs.Refusals.{bind, refusal}
@@ -114,7 +114,7 @@ module _ (known : Known) (version : ℕ) where
 module _ (number version : ℕ) where
   pub found_here : (bs : List ℕ) (p : ℕ) (rest : List ℕ) (t : Section) (all : Option PlacedSection) → p < length bs → rest ≡ drop p bs → Some t ≡ first_section rest → (leb t.since version && eqb t.number number) ≡ true → section_at number version p (there (sections (drop p bs))) ≡ all → Some (record { place = p; section = t }) ≡ all
   found_here bs p rest t all h e f yes' whole =
-      sym (cond_true (leb t.since version && eqb t.number number) (Some (record { place = p; section = t })) (section_at number version (p + section_size t) (there (sections (drop (p + section_size t) bs)))) yes')
+      sym (cond-true (leb t.since version && eqb t.number number) (Some (record { place = p; section = t })) (section_at number version (p + section_size t) (there (sections (drop (p + section_size t) bs)))) yes')
       ∙ ap (λ ts. section_at number version p (there ts)) (sym (section_here bs p (section_size t) rest t h e f refl))
       ∙ whole
 
@@ -122,7 +122,7 @@ module _ (number version : ℕ) where
   found_on bs p n rest t all h e f k no' whole =
       let tail = there (sections (drop (p + n) bs)) in
       ap (λ m. section_at number version (p + m) tail) k
-      ∙ sym (cond_false (leb t.since version && eqb t.number number) (Some (record { place = p; section = t })) (section_at number version (p + section_size t) tail) no')
+      ∙ sym (cond-false (leb t.since version && eqb t.number number) (Some (record { place = p; section = t })) (section_at number version (p + section_size t) tail) no')
       ∙ ap (λ ts. section_at number version p (there ts)) (sym (section_here bs p n rest t h e f k))
       ∙ whole
 

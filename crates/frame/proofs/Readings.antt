@@ -1,7 +1,7 @@
 -- The steps that lead to a reading, as the definition of one has them.
 use Rattle.std.proofs.Common.{◌≡◌, ℕ, ◌+◌, ◌*◌, ◌<◌, ◌≤◌, Bool, true, false, cond, ◌&&◌, eqb, leb, ◌⊎◌, List, [], ◌∷◌, length, take, drop, Some, Option, Result, sym, refl, ap, ◌∙◌, ap₂, inl, inr, arith, drop-drop}
 use Rattle.std.specs.Option.{option_map}
-use Rattle.std.proofs.lemmas.Bool.{cond_false, ne_eqb, cases_lt}
+use Rattle.std.proofs.lemmas.Bool.{cond-false, ne_eqb, cases_lt}
 use Rattle.wire.specs.declared.refusal.Refusal.{Refusal}
 use Rattle.types.specs.Kinds.{Known}
 use Rattle.schema.specs.Structure.{Field, Group, Data}
@@ -54,7 +54,7 @@ found_read known s bs n u o group entry tag en eu is =
 pub group_on : (known : Known) (u : ℕ) (bs : List ℕ) (p n : ℕ) (rest : List ℕ) (all gs : List Group) (g : Group) (group entry tag : ℕ) (r : Result Reading Refusal) → n ≡ group_length rest → rest ≡ drop p bs → (g.tag ≡ group → ⊥) → all ≡ g ∷ gs → group_at known u bs p all group entry tag ≡ r → group_at known u bs (p + n) gs group entry tag ≡ r
 group_on known u bs p n rest all gs g group entry tag r long is other here whole =
     ap (λ m. group_at known u bs (p + m) gs group entry tag) (long ∙ ap group_length is)
-    ∙ sym (cond_false (eqb g.tag group) (entry_at known u bs p g.block.fields group entry tag) (group_at known u bs (p + group_length (drop p bs)) gs group entry tag) (ne_eqb g.tag group other))
+    ∙ sym (cond-false (eqb g.tag group) (entry_at known u bs p g.block.fields group entry tag) (group_at known u bs (p + group_length (drop p bs)) gs group entry tag) (ne_eqb g.tag group other))
     ∙ ap (λ x. group_at known u bs p x group entry tag) (sym here)
     ∙ whole
 

@@ -1,7 +1,7 @@
 -- The steps that lead to a spot, as the definition of one has them.
 use Rattle.std.proofs.Common.{◌≡◌, ℕ, ◌+◌, ◌*◌, ◌^◌, ◌<◌, ◌≤◌, cond, eqb, leb, ◌⊎◌, List, [], ◌∷◌, drop, Some, Option, Result, sym, refl, ap, ◌∙◌, ap₂, inl, inr, arith}
 use Rattle.std.specs.Option.{option_map}
-use Rattle.std.proofs.lemmas.Bool.{cond_false, ne_eqb, cases_lt}
+use Rattle.std.proofs.lemmas.Bool.{cond-false, ne_eqb, cases_lt}
 use Rattle.wire.specs.declared.refusal.Refusal.{Refusal}
 use Rattle.types.specs.Kinds.{Known}
 use Rattle.schema.specs.Structure.{Field, Group, Data}
@@ -33,7 +33,7 @@ found_spotted known s bs n u o group entry tag en eu is =
 pub group_spot_on : (u : ℕ) (bs : List ℕ) (p n : ℕ) (rest : List ℕ) (all gs : List Group) (g : Group) (group entry tag : ℕ) (r : Result Spot Refusal) → n ≡ group_length rest → rest ≡ drop p bs → (g.tag ≡ group → ⊥) → all ≡ g ∷ gs → group_spot u bs p all group entry tag ≡ r → group_spot u bs (p + n) gs group entry tag ≡ r
 group_spot_on u bs p n rest all gs g group entry tag r long is other here whole =
     ap (λ m. group_spot u bs (p + m) gs group entry tag) (long ∙ ap group_length is)
-    ∙ sym (cond_false (eqb g.tag group) (entry_spot u bs p g.block.fields group entry tag) (group_spot u bs (p + group_length (drop p bs)) gs group entry tag) (ne_eqb g.tag group other))
+    ∙ sym (cond-false (eqb g.tag group) (entry_spot u bs p g.block.fields group entry tag) (group_spot u bs (p + group_length (drop p bs)) gs group entry tag) (ne_eqb g.tag group other))
     ∙ ap (λ x. group_spot u bs p x group entry tag) (sym here)
     ∙ whole
 
@@ -48,7 +48,7 @@ groups_end_on bs p n rest all gs g r long is here whole =
 pub part_spot_on : (u : ℕ) (bs : List ℕ) (p q : ℕ) (all ds : List Data) (d : Data) (tag : ℕ) (r : Option Spot) → q ≡ part_end u bs p d → (d.tag ≡ tag → ⊥) → all ≡ d ∷ ds → part_spot u bs p all tag ≡ r → part_spot u bs q ds tag ≡ r
 part_spot_on u bs p q all ds d tag r is other here whole =
     ap (λ m. part_spot u bs m ds tag) is
-    ∙ sym (cond_false (eqb d.tag tag) (Some (spot_of_part u bs p d)) (part_spot u bs (part_end u bs p d) ds tag) (ne_eqb d.tag tag other))
+    ∙ sym (cond-false (eqb d.tag tag) (Some (spot_of_part u bs p d)) (part_spot u bs (part_end u bs p d) ds tag) (ne_eqb d.tag tag other))
     ∙ ap (λ x. part_spot u bs p x tag) (sym here)
     ∙ whole
 

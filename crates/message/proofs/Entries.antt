@@ -1,7 +1,7 @@
 -- Each line reads something, in each entry that there is; an entry that is not there is not found.
 use Rattle.std.proofs.Common.{◌≡◌, ℕ, zero, suc, ◌<◌, ◌≤◌, List, [], ◌∷◌, length, get_or, Some, refl, ⊎_elim, arith}
 use Rattle.std.specs.List.{AllByRecursion as All}
-use Rattle.std.proofs.ByRecursion.{AllWeaker}
+use Rattle.std.proofs.ByRecursion.{All-weaker}
 use Rattle.std.proofs.lemmas.Bool.{eq-eqb}
 use Rattle.std.proofs.lemmas.Bool.Decides.{eqb_tells}
 use Rattle.types.specs.Meanings.{Meaning}
@@ -17,13 +17,13 @@ pub each_reads : {L X : Type 0} (tag_of : L → ℕ) (d : X) (ls : List L) (xs :
 each_reads tag_of d [] xs = tt
 each_reads tag_of d (l ∷ ls) [] = (
   (d, rw (eq-eqb (tag_of l) (tag_of l) refl)),
-  AllWeaker (ReadAt tag_of d ls []) (ReadAt tag_of d (l ∷ ls) [])
+  All-weaker (ReadAt tag_of d ls []) (ReadAt tag_of d (l ∷ ls) [])
       (λ k h. ⊎_elim (λ a. (d, rw a.0)) (λ a. (h.0, rw a.0 h.1)) (eqb_tells (tag_of l) (tag_of k)))
       ls (each_reads tag_of d ls []),
 )
 each_reads tag_of d (l ∷ ls) (x ∷ xs) = (
   (x, rw (eq-eqb (tag_of l) (tag_of l) refl)),
-  AllWeaker (ReadAt tag_of d ls xs) (ReadAt tag_of d (l ∷ ls) (x ∷ xs))
+  All-weaker (ReadAt tag_of d ls xs) (ReadAt tag_of d (l ∷ ls) (x ∷ xs))
       (λ k h. ⊎_elim (λ a. (x, rw a.0)) (λ a. (h.0, rw a.0 h.1)) (eqb_tells (tag_of l) (tag_of k)))
       ls (each_reads tag_of d ls xs),
 )

@@ -1,7 +1,7 @@
 -- The lines of two editions say the same of a message.
 use Rattle.std.proofs.Common.{◌≡◌, ℕ, zero, suc, ◌≤◌, true, ◌⊎◌, List, [], ◌∷◌, ◌++◌, map, length, Some, None, Ok, Option, Result, sym, refl, ap, ◌∙◌, subst, ap₂, inl, inr, ⊎_elim, arith}
 use Rattle.std.specs.List.{AllByRecursion as All}
-use Rattle.std.proofs.ByRecursion.{AllWeaker}
+use Rattle.std.proofs.ByRecursion.{All-weaker}
 use Rattle.std.proofs.lemmas.Bool.{ne_eqb}
 use Rattle.std.proofs.lemmas.Bool.Decides.{leb_tells, eqb_tells}
 use Rattle.wire.specs.declared.refusal.Refusal.{Refusal}
@@ -99,7 +99,7 @@ no_field t h xs ms tag x e =
     let groups = map (λ g. g.tag) t.groups in
     let parts = map (λ d. d.tag) t.parts in
     not_among (λ f. f.tag) absent t.root.fields ms tag
-    (AllWeaker (λ u. All (λ w. w ≡ u → ⊥) (groups ++ parts)) (λ u. tag ≡ u → ⊥)
+    (All-weaker (λ u. All (λ w. w ≡ u → ⊥) (groups ++ parts)) (λ u. tag ≡ u → ⊥)
     (λ u k. among (λ d. d.tag) [] (λ w. w ≡ u → ⊥) t.parts xs tag x (all_right (λ w. w ≡ u → ⊥) groups parts k) e)
     fields (apart fields (groups ++ parts) h))
 

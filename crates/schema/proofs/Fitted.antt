@@ -1,7 +1,7 @@
 -- A template is good exactly if its names are, its places are, and each number of its lines has room.
 use Rattle.std.proofs.Common.{◌≡◌, ℕ, ◌^◌, ◌<◌, ◌≤◌, true, List, [], ◌∷◌, ◌++◌, map, length, Some, None, Option, sym, refl, ap, subst, arith}
 use Rattle.std.specs.List.{flat_map, AllByRecursion as All}
-use Rattle.std.proofs.ByRecursion.{AllWeaker}
+use Rattle.std.proofs.ByRecursion.{All-weaker}
 use Rattle.std.proofs.lemmas.Bool.{false≢true}
 use Rattle.types.specs.Kinds.{Kind, Known}
 use Rattle.schema.specs.Structure.{Field, Block, Group, Data, Template}
@@ -85,10 +85,10 @@ module _ (known : Known) (version : ℕ) where
       record { size_fits = s; few = l; fields = all_pair (Typed known) FitField (GoodField known) good_field b.fields h.0 k; places = h.1; sinces = h.2 }
 
   block_laid : (b : Block) → GoodBlock known version b → Laid known version b
-  block_laid b h = (AllWeaker (GoodField known) (Typed known) field_typed b.fields h.fields, h.places, h.sinces)
+  block_laid b h = (All-weaker (GoodField known) (Typed known) field_typed b.fields h.fields, h.places, h.sinces)
 
   block_fit : (b : Block) → GoodBlock known version b → All FitField b.fields
-  block_fit b h = AllWeaker (GoodField known) FitField field_fit b.fields h.fields
+  block_fit b h = All-weaker (GoodField known) FitField field_fit b.fields h.fields
 
   abbrev LaidGroup : Group → Type 0
   LaidGroup g = (g.block.size ≤ 16372) × Laid known version g.block
@@ -121,7 +121,7 @@ module _ (known : Known) (version : ℕ) where
   template_names t h =
       record {
         few = h.root.few;
-        inner = AllWeaker (GoodGroup known version) Inner (λ g k. (k.block.few, k.tags)) t.groups h.groups;
+        inner = All-weaker (GoodGroup known version) Inner (λ g k. (k.block.few, k.tags)) t.groups h.groups;
         few_groups = h.few_groups;
         few_parts = h.few_parts;
         tags = h.tags;
@@ -131,8 +131,8 @@ module _ (known : Known) (version : ℕ) where
   template_places t h =
       record {
         root = block_laid t.root h.root;
-        groups = AllWeaker (GoodGroup known version) LaidGroup (λ g k. (k.block.size_fits, block_laid g.block k.block)) t.groups h.groups;
-        parts = AllWeaker GoodData Measured (λ d k. (k.least, k.most)) t.parts h.parts;
+        groups = All-weaker (GoodGroup known version) LaidGroup (λ g k. (k.block.size_fits, block_laid g.block k.block)) t.groups h.groups;
+        parts = All-weaker GoodData Measured (λ d k. (k.least, k.most)) t.parts h.parts;
         part_sinces = h.part_sinces;
       }
 
@@ -141,7 +141,7 @@ module _ (known : Known) (version : ℕ) where
       (fit_iff t).1 (
         block_fit t.root h.root,
         (
-          AllWeaker (GoodGroup known version) FitGroup (λ g k. let l = k.block.size_fits in (k.tag_fits, omega arith, block_fit g.block k.block)) t.groups h.groups,
-          AllWeaker GoodData FitPart (λ d k. let l = k.most in (k.tag_fits, k.since_fits, omega arith, k.one_byte)) t.parts h.parts,
+          All-weaker (GoodGroup known version) FitGroup (λ g k. let l = k.block.size_fits in (k.tag_fits, omega arith, block_fit g.block k.block)) t.groups h.groups,
+          All-weaker GoodData FitPart (λ d k. let l = k.most in (k.tag_fits, k.since_fits, omega arith, k.one_byte)) t.parts h.parts,
         ),
       )

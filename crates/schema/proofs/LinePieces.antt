@@ -1,7 +1,7 @@
 -- Lines are pieces.
 use Rattle.std.proofs.Common.{◌≡◌, ℕ, zero, suc, ◌+◌, ◌-◌, ◌<◌, ◌≤◌, Bool, true, false, cond, ◌&&◌, eqb, leb, List, [], ◌∷◌, ◌++◌, map, length, get_or, take, drop, Some, None, Option, sym, refl, ap, ◌∙◌, subst, ap₂, ⊎_elim, arith, length-append, length-drop, length-take}
 use Rattle.std.proofs.lemmas.List.{length-take-le, take-append-le, take_all, get_or-take, get_or_append_left}
-use Rattle.std.proofs.lemmas.Bool.{le-leb, leb-true, eqb-true, and_parts, and_from, cond_true, cond_false, cases_Bool}
+use Rattle.std.proofs.lemmas.Bool.{le-leb, leb-true, eqb-true, and_parts, and_from, cond-true, cond-false, cases_Bool}
 use Rattle.std.proofs.lemmas.Bool.Decides.{leb_tells, eqb_tells, nat_tests}
 use Rattle.schema.specs.Lines.{Line, field, group, end, part, line_size, line_of, first_line, lines_from, lines, onward, there, field_in, data_in, number_2, number_4}
 use Rattle.schema.proofs.Pieces.{Cutting, Pieces, pieces_from, onward_same, enough}
@@ -70,7 +70,7 @@ stays s more x e =
     let here : (leb 2 (length (s ++ more)) && leb n (length (s ++ more))) ≡ true =
     and_from _ _ (le-leb 2 (length (s ++ more)) (omega arith)) (le-leb n (length (s ++ more)) (omega arith)) in
     let front : take n (s ++ more) ≡ take n s = take-append-le n s more fits in
-    rw (zeroth, second, front) (cond_true (leb 2 (length (s ++ more)) && leb n (length (s ++ more))) _ None here ∙ g.1)
+    rw (zeroth, second, front) (cond-true (leb 2 (length (s ++ more)) && leb n (length (s ++ more))) _ None here ∙ g.1)
 
 alone : (s : List ℕ) (x : Line) → first_line s ≡ Some x → first_line (take (line_size x) s) ≡ Some x
 alone s x e =
@@ -86,7 +86,7 @@ alone s x e =
     and_from _ _ (le-leb 2 (length (take n s)) (omega arith)) (le-leb n (length (take n s)) (omega arith)) in
     let all : take n (take n s) ≡ take n s = take_all n (take n s) (omega arith) in
     let first : first_line (take n s) ≡ Some x =
-    rw (zeroth, second, all) (cond_true (leb 2 (length (take n s)) && leb n (length (take n s))) _ None here ∙ g.1) in
+    rw (zeroth, second, all) (cond-true (leb 2 (length (take n s)) && leb n (length (take n s))) _ None here ∙ g.1) in
     ap (λ m. first_line (take m s)) k.0 ∙ first
 
 pub cutting_lines : Cutting first_line line_size

@@ -2,7 +2,7 @@
 use Rattle.std.proofs.Common.{◌≡◌, ℕ, suc, ◌+◌, ◌<◌, ◌≤◌, true, not, ◌&&◌, eqb, ltb, List, [], ◌∷◌, ◌++◌, map, length, Some, Decides, Option, sym, refl, subst, ⊎_elim, arith}
 use Rattle.std.specs.List.{flat_map, AllByRecursion as All}
 use Rattle.std.proofs.lemmas.List.{length-map}
-use Rattle.std.proofs.ByRecursion.{AllWeaker}
+use Rattle.std.proofs.ByRecursion.{All-weaker}
 use Rattle.std.proofs.lemmas.Bool.{false≢true}
 use Rattle.std.proofs.lemmas.Bool.Decides.{eqb_tells, Decides-eqb, Decides-not, Decides-and, Decides-ltb}
 use Rattle.wire.specs.declared.refusal.Reason.TheVariants as reason
@@ -66,8 +66,8 @@ fresh_distinct (t ∷ ts) o =
     let r = fresh_distinct ts (t ∷ o) in (
       (λ h.
           let k = r.0 h.1 in (
-            ((h.0.0, AllWeaker (λ u. All (λ v. v ≡ u → ⊥) (t ∷ o)) (λ u. u ≡ t → ⊥) (λ u a e. a.0 (sym e)) ts k.1), k.0),
-            (h.0.1, AllWeaker (λ u. All (λ v. v ≡ u → ⊥) (t ∷ o)) (λ u. All (λ v. v ≡ u → ⊥) o) (λ u a. a.1) ts k.1),
+            ((h.0.0, All-weaker (λ u. All (λ v. v ≡ u → ⊥) (t ∷ o)) (λ u. u ≡ t → ⊥) (λ u a e. a.0 (sym e)) ts k.1), k.0),
+            (h.0.1, All-weaker (λ u. All (λ v. v ≡ u → ⊥) (t ∷ o)) (λ u. All (λ v. v ≡ u → ⊥) o) (λ u a. a.1) ts k.1),
           )),
       (λ h. ((h.0.0.0, h.1.0), r.1 (h.0.1, apart_more o ts t h.0.0.1 h.1.1))),
     )

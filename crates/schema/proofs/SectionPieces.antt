@@ -1,7 +1,7 @@
 -- Sections are pieces.
 use Rattle.std.proofs.Common.{◌≡◌, ℕ, zero, suc, ◌+◌, ◌-◌, ◌<◌, ◌≤◌, Bool, true, false, cond, ◌&&◌, leb, List, [], ◌∷◌, ◌++◌, length, take, drop, Some, None, Option, sym, refl, ap, ◌∙◌, subst, ap₂, arith, length-append, length-drop}
 use Rattle.std.proofs.lemmas.List.{length-take-le, take-append-le, take_all, take-take}
-use Rattle.std.proofs.lemmas.Bool.{le-leb, leb-true, and_parts, and_from, cond_true}
+use Rattle.std.proofs.lemmas.Bool.{le-leb, leb-true, and_parts, and_from, cond-true}
 use Rattle.wire.specs.Numbers.{be_value}
 use Rattle.schema.specs.Lines.{number_2, onward}
 use Rattle.schema.specs.Sections.{Section, section_in, first_section, section_size, sections_from, sections}
@@ -31,7 +31,7 @@ pub first_shown : (s : List ℕ) (n : ℕ) → number_2 s 0 ≡ n → 8 ≤ n �
 first_shown s n e least fits =
     let here : (leb 8 (length s) && (leb 8 n && leb n (length s))) ≡ true =
     and_from (leb 8 (length s)) _ (le-leb 8 (length s) (omega arith)) (and_from (leb 8 n) _ (le-leb 8 n least) (le-leb n (length s) fits)) in
-    rw e (cond_true (leb 8 (length s) && (leb 8 n && leb n (length s))) (Some (section_in (take n s))) None here)
+    rw e (cond-true (leb 8 (length s) && (leb 8 n && leb n (length s))) (Some (section_in (take n s))) None here)
 
 stays : (s more : List ℕ) (t : Section) → first_section s ≡ Some t → first_section (s ++ more) ≡ Some t
 stays s more t e =

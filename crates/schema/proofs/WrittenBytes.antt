@@ -1,7 +1,7 @@
 -- A well-formed dictionary is written out in bytes.
 use Rattle.std.proofs.Common.{ℕ, ◌+◌, ◌<◌, List, [], ◌∷◌, ◌++◌, map, length, arith}
 use Rattle.std.specs.List.{flat_map, AllByRecursion as All}
-use Rattle.std.proofs.ByRecursion.{All-append, All-map, AllWeaker}
+use Rattle.std.proofs.ByRecursion.{All-append, All-map, All-weaker}
 use Rattle.wire.specs.Bytes.{Bytes}
 use Rattle.wire.specs.Numbers.{be_bytes}
 use Rattle.wire.proofs.Values.{be_bytes_are_bytes}
@@ -42,7 +42,7 @@ part_bytes d g =
 
 module _ (known : Known) (version : ℕ) where
   fields_bytes : (b : Block) → GoodBlock known version b → All InBytes (map field b.fields)
-  fields_bytes b g = All-map InBytes field b.fields (AllWeaker (GoodField known) (λ f. InBytes (field f)) (field_bytes known) b.fields g.fields)
+  fields_bytes b g = All-map InBytes field b.fields (All-weaker (GoodField known) (λ f. InBytes (field f)) (field_bytes known) b.fields g.fields)
 
   group_lines_bytes : (g : Group) → GoodGroup known version g → All InBytes (group_lines g)
   group_lines_bytes g h =
@@ -52,8 +52,8 @@ module _ (known : Known) (version : ℕ) where
   template_lines_bytes t g =
       All-append InBytes (map field t.root.fields) _ (fields_bytes t.root g.root)
       (All-append InBytes (flat_map group_lines t.groups) _
-      (all_joined InBytes group_lines t.groups (AllWeaker (GoodGroup known version) (λ h. All InBytes (group_lines h)) group_lines_bytes t.groups g.groups))
-      (All-map InBytes part t.parts (AllWeaker GoodData (λ d. InBytes (part d)) part_bytes t.parts g.parts)))
+      (all_joined InBytes group_lines t.groups (All-weaker (GoodGroup known version) (λ h. All InBytes (group_lines h)) group_lines_bytes t.groups g.groups))
+      (All-map InBytes part t.parts (All-weaker GoodData (λ d. InBytes (part d)) part_bytes t.parts g.parts)))
 
   template_in_bytes : (t : Template) → GoodTemplate known version t → Bytes (template_bytes t)
   template_in_bytes t g =
@@ -65,5 +65,5 @@ written_in_bytes known d w =
     let layout = w.layout in (
       omega arith,
       three_first 2 (7 + length (templates_bytes d.templates)) d.schema d.version (templates_bytes d.templates)
-          (all_joined (λ b. b < 256) template_bytes d.templates (AllWeaker (GoodTemplate known d.version) (λ t. Bytes (template_bytes t)) (template_in_bytes known d.version) d.templates w.templates)),
+          (all_joined (λ b. b < 256) template_bytes d.templates (All-weaker (GoodTemplate known d.version) (λ t. Bytes (template_bytes t)) (template_in_bytes known d.version) d.templates w.templates)),
     )

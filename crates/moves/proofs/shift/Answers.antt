@@ -4,5 +4,5 @@ use Rattle.moves.proofs.shift.Goals as goal
 
 pub returns : goal.returns
 returns c =
-    let value = c.copy-within.ensures.after ∙ paste_shifts c.args.from c.args.end c.args.to c.args.buffer.now in
-    record { value = value; len = c.copy-within.auto.self }
+    let value = c.copy_within.ensures.after ∙ paste_shifts c.args.from c.args.end c.args.to c.args.buffer.now in
+    record { value = value; len = c.copy_within.auto.self }

@@ -4,12 +4,12 @@ use Rattle.text.proofs.front.Goals as goal
 
 pub loop-count-preserved : goal.loop-count-preserved
 loop-count-preserved c =
-    (omega arith, count_on c.args.s.now c.loop-count.count c.loop-count.invariant.1 c.loop-count-test.true (sym c.if-is-character.ensures))
+    (omega arith, count_on c.args.s.now c.loop-count.count c.loop-count.invariant.1 c.loop-count-test.true (sym c.if-is_character.ensures))
 
-pub returns-else-is-character : goal.returns-else-is-character
-returns-else-is-character c =
+pub returns-else-is_character : goal.returns-else-is_character
+returns-else-is_character c =
     record {
-      value = count_stops c.args.s.now c.loop-count.count c.loop-count.invariant.1 c.loop-count-test.true (sym c.if-is-character.ensures);
+      value = count_stops c.args.s.now c.loop-count.count c.loop-count.invariant.1 c.loop-count-test.true (sym c.if-is_character.ensures);
       bound = c.loop-count.invariant.0;
     }
 

@@ -1,6 +1,6 @@
 use Rattle.std.proofs.Common.{◌≡◌, ◌+◌, ◌≤◌, leb, drop, sym, ap, ◌∙◌, arith}
 use Rattle.std.proofs.lemmas.List.{at_drop_all}
-use Rattle.std.proofs.lemmas.Bool.{cond_true, le-leb}
+use Rattle.std.proofs.lemmas.Bool.{cond-true, le-leb}
 use Rattle.message.specs.Frames.{content_length, part_length}
 use Rattle.frame.proofs.spotting.part_end.Goals as goal
 
@@ -14,7 +14,7 @@ returns c =
     let few = c.content_length.ensures.most in
     let is : n ≡ content_length 1 (drop p bs) = c.content_length.ensures.value ∙ ap (content_length 1) c.beyond.ensures in
     record {
-      value = ap (λ m. p + (1 + m)) is ∙ sym (cond_true (leb c.args.part.since c.args.version) (p + part_length 1 (drop p bs)) p (le-leb c.args.part.since c.args.version old));
+      value = ap (λ m. p + (1 + m)) is ∙ sym (cond-true (leb c.args.part.since c.args.version) (p + part_length 1 (drop p bs)) p (le-leb c.args.part.since c.args.version old));
       most = omega arith;
       behind = λ h. let none : n ≡ 0 = is ∙ at_drop_all (content_length 1) bs p h in omega arith;
     }
