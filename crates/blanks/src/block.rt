@@ -22,10 +22,10 @@ fn put_blank_field<L: TypeLibrary>(
     at: usize,
 ) -> usize
     requires order { at ≤ f.offset }
-    requires named { is_known (kind_of (known library.now) (shown_field f)) ≡ true }
-    requires room { base + field_end (known library.now) (shown_field f) ≤ length buffer.old }
-    ensures value { buffer.new ≡ patched (base + at) (blank_field (known library.now) at (shown_field f.entry)) buffer.old }
-    ensures end { result ≡ field_end (known library.now) (shown_field f.entry) }
+    requires named { is_known (kind_of (L.known library.now) (shown_field f)) ≡ true }
+    requires room { base + field_end (L.known library.now) (shown_field f) ≤ length buffer.old }
+    ensures value { buffer.new ≡ patched (base + at) (blank_field (L.known library.now) at (shown_field f.entry)) buffer.old }
+    ensures end { result ≡ field_end (L.known library.now) (shown_field f.entry) }
     ensures len { length buffer.new ≡ length buffer.old }
 {
     let offset = f.offset as usize;
@@ -50,8 +50,8 @@ pub fn put_blank_block<L: TypeLibrary>(
     base: usize,
 )
     requires room { base + size ≤ length buffer.old }
-    requires fit { Fitting (known library.now) 0 (seen_fields u (fields_in lines.now)) size }
-    ensures value { buffer.new ≡ patched base (blank_block (block_view (known library.now) (block_in u size lines.now))) buffer.old }
+    requires fit { Fitting (L.known library.now) 0 (seen_fields u (fields_in lines.now)) size }
+    ensures value { buffer.new ≡ patched base (blank_block (block_view (L.known library.now) (block_in u size lines.now))) buffer.old }
     ensures len { length buffer.new ≡ length buffer.old }
 {
     let mut left = lines;

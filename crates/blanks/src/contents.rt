@@ -61,9 +61,9 @@ pub fn put_blank_contents<L: TypeLibrary>(
     section: Section<'_>,
     buffer: &mut [u8],
 )
-    requires room { 12 + length (blank_bytes (view_of (known library.now) (template_in u section))) ≤ length buffer.old }
-    requires fit { Fitting (known library.now) 0 (template_in u section).root.fields (template_in u section).root.size }
-    ensures value { buffer.new ≡ patched 12 (blank_bytes (view_of (known library.now) (template_in u section.entry))) buffer.old }
+    requires room { 12 + length (blank_bytes (view_of (L.known library.now) (template_in u section))) ≤ length buffer.old }
+    requires fit { Fitting (L.known library.now) 0 (template_in u section).root.fields (template_in u section).root.size }
+    ensures value { buffer.new ≡ patched 12 (blank_bytes (view_of (L.known library.now) (template_in u section.entry))) buffer.old }
     ensures len { length buffer.new ≡ length buffer.old }
 {
     let size = length_at(u, section.size, section.body) as usize;

@@ -32,7 +32,7 @@ distinct_back (t ∷ ts) us d = distinct_back ts us d.1
 module _ (known : Known) (lawful : AllLawful known) where
   slots_good : (fs : List Field) → All (GoodField known) fs → All GoodSlot (map (slot_of known) fs)
   slots_good [] g = tt
-  slots_good (f ∷ fs) g = ((subst LawfulKind (sym g.0.known_type) (lawful f.type f.argument g.0.kind g.0.known_type), g.0.tag-Fits), slots_good fs g.1)
+  slots_good (f ∷ fs) g = ((subst LawfulKind (sym g.0.known_type) (lawful f.type f.argument g.0.kind g.0.known_type), g.0.tag_fits), slots_good fs g.1)
 
   slot_tags : (fs : List Field) → Distinct (map (λ f. f.tag) fs) → Distinct (map (λ f. f.tag) (map (slot_of known) fs))
   slot_tags fs d = subst Distinct (sym (map_twice (λ f. f.tag) (slot_of known) fs)) d
@@ -40,11 +40,11 @@ module _ (known : Known) (lawful : AllLawful known) where
   module _ (version : ℕ) where
     groups_good : (gs : List Group) → All (GoodGroup known version) gs → All GoodGroupView (map (group_view known) gs)
     groups_good [] h = tt
-    groups_good (g ∷ gs) h = ((h.0.tag-Fits, slots_good g.block.fields h.0.block.fields, slot_tags g.block.fields h.0.tags), groups_good gs h.1)
+    groups_good (g ∷ gs) h = ((h.0.tag_fits, slots_good g.block.fields h.0.block.fields, slot_tags g.block.fields h.0.tags), groups_good gs h.1)
 
     parts_good : (ds : List Data) → All GoodData ds → All (λ d. d.tag < 2 ^ 32) (map data_view ds)
     parts_good [] h = tt
-    parts_good (d ∷ ds) h = (h.0.tag-Fits, parts_good ds h.1)
+    parts_good (d ∷ ds) h = (h.0.tag_fits, parts_good ds h.1)
 
     pub view_good : (t : Template) → GoodTemplate known version t → GoodView (view_of known t)
     view_good t g =

@@ -25,7 +25,7 @@ fn is_dictionary_length(n: usize) -> bool
 fn check_rounds<L: TypeLibrary>(dictionary: &[u8], library: &L) -> Result<(), Refusal>
     requires least { 7 ≤ length dictionary.now }
     requires most { length dictionary.now ≤ 32000 }
-    ensures { result ≡ rounds (known library.now) dictionary.now }
+    ensures { result ≡ rounds (L.known library.now) dictionary.now }
 {
     let templates = tail(dictionary, 7);
     check_sections(templates)?;
@@ -34,7 +34,7 @@ fn check_rounds<L: TypeLibrary>(dictionary: &[u8], library: &L) -> Result<(), Re
 
 // The first broken rule of a dictionary, or that there is none.
 fn judge<L: TypeLibrary>(dictionary: &[u8], library: &L) -> Result<(), Refusal>
-    ensures { result ≡ verdict (known library.now) dictionary.now }
+    ensures { result ≡ verdict (L.known library.now) dictionary.now }
 {
     if !is_dictionary_length(dictionary.len())
         || u16_at(dictionary, 1) as usize != dictionary.len()
@@ -57,8 +57,8 @@ fn judge<L: TypeLibrary>(dictionary: &[u8], library: &L) -> Result<(), Refusal>
 
 // Checks a dictionary: its size and layout, then shape and names of all its lines, then types and geometry of all.
 pub fn check<L: TypeLibrary>(dictionary: &[u8], library: &L) -> Result<(), Refusal>
-    ensures value { result ≡ verdict (known library.now) dictionary.now }
-    ensures exact { PassesExactlyAsWrittenOut (known library.now) dictionary.now }
+    ensures value { result ≡ verdict (L.known library.now) dictionary.now }
+    ensures exact { PassesExactlyAsWrittenOut (L.known library.now) dictionary.now }
 {
     seen(dictionary);
     judge(dictionary, library)

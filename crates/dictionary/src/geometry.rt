@@ -76,7 +76,7 @@ impl Ground {
         place: usize,
         f: FieldLine<'_>,
     ) -> Result<Ground, Refusal>
-        ensures { shown_ground result ≡ line_ground (known library.now) version (grounded self) place (field (shown_field f.entry)) }
+        ensures { shown_ground result ≡ line_ground (L.known library.now) version (grounded self) place (field (shown_field f.entry)) }
     {
         let width = located(library.width(f.number, f.argument), place, f.tag)?;
         if f.presence > 1 {
@@ -143,7 +143,7 @@ impl Ground {
         place: usize,
         line: Line<'_>,
     ) -> Result<Ground, Refusal>
-        ensures { shown_ground result ≡ line_ground (known library.now) version (grounded self) place (shown_line line.entry) }
+        ensures { shown_ground result ≡ line_ground (L.known library.now) version (grounded self) place (shown_line line.entry) }
     {
         match line {
             Line::Field(f) => self.past_field(library, version, place, f),
@@ -176,7 +176,7 @@ fn check_lines_geometry<L: TypeLibrary>(
     place: usize,
 ) -> Result<(), Refusal>
     requires { place + length body.now < 2 ^ 63 }
-    ensures { result ≡ lines_geometry (known library.now) version (grounded ground) place (there (lines body.now)) }
+    ensures { result ≡ lines_geometry (L.known library.now) version (grounded ground) place (there (lines body.now)) }
 {
     let mut above = ground;
     let mut at = 0;
@@ -199,7 +199,7 @@ impl<'a> Section<'a> {
         place: usize,
     ) -> Result<(), Refusal>
         requires { place + 8 + length self.body.now < 2 ^ 63 }
-        ensures { result ≡ section_geometry (known library.now) version place (shown_section self.entry) }
+        ensures { result ≡ section_geometry (L.known library.now) version place (shown_section self.entry) }
     {
         if self.since > version || !is_block_length(self.size) {
             return Err(Refusal {
@@ -225,7 +225,7 @@ pub fn check_sections_geometry<L: TypeLibrary>(
     templates: &[u8],
 ) -> Result<(), Refusal>
     requires { length templates.now < 2 ^ 62 }
-    ensures { result ≡ sections_geometry (known library.now) version 7 (there (sections templates.now)) }
+    ensures { result ≡ sections_geometry (L.known library.now) version 7 (there (sections templates.now)) }
 {
     let mut at = 0;
     while at < templates.len() {

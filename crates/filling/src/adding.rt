@@ -36,8 +36,8 @@ fn put_blank_in<L: TypeLibrary>(
     buffer: &mut [u8],
     p: usize,
 )
-    requires { Fitting (known library.now) 0 (seen_fields version (fields_in lines.now)) size }
-    ensures value { buffer.new ≡ patched_in p (blank_block (block_view (known library.now) (block_in version size lines.now))) buffer.old }
+    requires { Fitting (L.known library.now) 0 (seen_fields version (fields_in lines.now)) size }
+    ensures value { buffer.new ≡ patched_in p (blank_block (block_view (L.known library.now) (block_in version size lines.now))) buffer.old }
     ensures long { length buffer.new ≡ length buffer.old }
 {
     if is_within(buffer.len(), p, size) {
@@ -58,8 +58,8 @@ fn add_entry<L: TypeLibrary>(
     requires few { g.count < 254 }
     requires small { g.size ≤ 65535 }
     requires short { whole < 2 ^ 16 }
-    requires fit { Fitting (known library.now) 0 (seen_fields version (fields_in g.lines.now)) g.size }
-    ensures { buffer.new ≡ patched_in 0 (le_bytes 2 whole) (patched_in (g.entry.place + 2) ((g.entry.count + 1) ∷ []) (patched_in (g.entry.place + 3 + g.entry.count * g.entry.size) (blank_block (block_view (known library.now) (block_in version g.entry.size g.entry.lines.now))) (shifted_in (g.entry.place + 3 + g.entry.count * g.entry.size) long (g.entry.place + 3 + (g.entry.count + 1) * g.entry.size) buffer.old))) }
+    requires fit { Fitting (L.known library.now) 0 (seen_fields version (fields_in g.lines.now)) g.size }
+    ensures { buffer.new ≡ patched_in 0 (le_bytes 2 whole) (patched_in (g.entry.place + 2) ((g.entry.count + 1) ∷ []) (patched_in (g.entry.place + 3 + g.entry.count * g.entry.size) (blank_block (block_view (L.known library.now) (block_in version g.entry.size g.entry.lines.now))) (shifted_in (g.entry.place + 3 + g.entry.count * g.entry.size) long (g.entry.place + 3 + (g.entry.count + 1) * g.entry.size) buffer.old))) }
 {
     let end = g.place + 3 + g.count * g.size;
     shift_in(buffer, end, long, g.place + 3 + (g.count + 1) * g.size);
@@ -78,8 +78,8 @@ pub fn append_entry<L: TypeLibrary>(
     group: u32,
 ) -> Result<usize, Refusal>
     requires short { long ≤ 16384 }
-    requires right { RightSection (known library.now) (shown_section section) }
-    ensures { Leaves (append_step (known library.now) (template_of (shown_section section.entry)) version long buffer.old group) result buffer.old buffer.new }
+    requires right { RightSection (L.known library.now) (shown_section section) }
+    ensures { Leaves (append_step (L.known library.now) (template_of (shown_section section.entry)) version long buffer.old group) result buffer.old buffer.new }
 {
     let g = group_place(version, upto(buffer, long), section, group)?;
     if !takes_another(g.count) {

@@ -41,11 +41,11 @@ fn put_blank_frame<L: TypeLibrary>(
     version: u16,
     whole: usize,
 )
-    requires right { RightSection (known library.now) (shown_section section) }
+    requires right { RightSection (L.known library.now) (shown_section section) }
     requires long { whole ≡ blank_needed version (template_of (shown_section section)) }
     requires room { whole ≤ length buffer.old }
     requires short { whole ≤ 16384 }
-    ensures { buffer.new ≡ patched 0 (header whole (block_length version (template_of (shown_section section.entry)).root) template schema version) (patched 12 (blank_bytes (view_of (known library.now) (template_in version section.entry))) buffer.old) }
+    ensures { buffer.new ≡ patched 0 (header whole (block_length version (template_of (shown_section section.entry)).root) template schema version) (patched 12 (blank_bytes (view_of (L.known library.now) (template_in version section.entry))) buffer.old) }
 {
     put_blank_contents(library, version, section, buffer);
     put_header(
@@ -68,7 +68,7 @@ fn open_with<L: TypeLibrary>(
     found: Found<'_>,
 ) -> Result<usize, Refusal>
     requires { found.place + 8 + length found.section.body.now < 2 ^ 63 }
-    ensures { Leaves (open_by (known library.now) dictionary.now buffer.old template version (Some (placed_section found.entry))) result buffer.old buffer.new }
+    ensures { Leaves (open_by (L.known library.now) dictionary.now buffer.old template version (Some (placed_section found.entry))) result buffer.old buffer.new }
 {
     found
         .section
@@ -95,7 +95,7 @@ pub fn open_frame<L: TypeLibrary>(
     template: u16,
     version: u16,
 ) -> Result<usize, Refusal>
-    ensures { Leaves (open_step (known library.now) dictionary.now buffer.old template version) result buffer.old buffer.new }
+    ensures { Leaves (open_step (L.known library.now) dictionary.now buffer.old template version) result buffer.old buffer.new }
 {
     if version > number_at(dictionary, 5) {
         return cannot_open();

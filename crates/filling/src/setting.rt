@@ -23,7 +23,7 @@ pub fn set_field<L: TypeLibrary>(
     tag: u32,
     value: Value<'_>,
 ) -> Result<usize, Refusal>
-    ensures { Leaves (set_step (known library.now) (template_of (shown_section section.entry)) version long buffer.old group entry tag (meaning value.entry)) result buffer.old buffer.new }
+    ensures { Leaves (set_step (L.known library.now) (template_of (shown_section section.entry)) version long buffer.old group entry tag (meaning value.entry)) result buffer.old buffer.new }
 {
     let f = field_place(version, upto(buffer, long), section, group, entry, tag)?;
     let pattern = located(
@@ -46,7 +46,7 @@ pub fn clear_field<L: TypeLibrary>(
     entry: usize,
     tag: u32,
 ) -> Result<usize, Refusal>
-    ensures { Leaves (clear_step (known library.now) (template_of (shown_section section.entry)) version long buffer.old group entry tag) result buffer.old buffer.new }
+    ensures { Leaves (clear_step (L.known library.now) (template_of (shown_section section.entry)) version long buffer.old group entry tag) result buffer.old buffer.new }
 {
     let f = field_place(version, upto(buffer, long), section, group, entry, tag)?;
     let pattern = located(

@@ -54,7 +54,7 @@ fn is_frame_of<L: TypeLibrary>(
     version: u16,
     bytes: &[u8],
 ) -> bool
-    ensures { result ≡ is_frame_of (known library.now) dictionary.now template version bytes.now }
+    ensures { result ≡ is_frame_of (L.known library.now) dictionary.now template version bytes.now }
 {
     stated_at(bytes, 6) == template
         && stated_at(bytes, 10) == version
@@ -64,7 +64,7 @@ fn is_frame_of<L: TypeLibrary>(
 
 // Whether a buffer begins with the frame of a message of the template, the version and the length.
 fn begins_with<L: TypeLibrary>(dictionary: &[u8], library: &L, buffer: &[u8], form: Numbers) -> bool
-    ensures { result ≡ is_there (front_message (known library.now) dictionary.now form.template form.version form.length buffer.now) }
+    ensures { result ≡ is_there (front_message (L.known library.now) dictionary.now form.template form.version form.length buffer.now) }
 {
     form.length <= buffer.len()
         && is_frame_of(
@@ -85,7 +85,7 @@ fn works_with<'a, L: TypeLibrary>(
     found: Found<'a>,
 ) -> Result<Section<'a>, Refusal>
     requires { found.place + 8 + length found.section.body.now < 2 ^ 63 }
-    ensures { shown_working result ≡ working_by (known library.now) dictionary.now buffer.now (plain_numbers form) (Some (placed_section found.entry)) }
+    ensures { shown_working result ≡ working_by (L.known library.now) dictionary.now buffer.now (plain_numbers form) (Some (placed_section found.entry)) }
 {
     found
         .section
@@ -103,7 +103,7 @@ fn working_section<'a, L: TypeLibrary>(
     buffer: &[u8],
     form: Numbers,
 ) -> Result<Section<'a>, Refusal>
-    ensures { shown_working result ≡ working (known library.now) dictionary.now buffer.now (plain_numbers form) }
+    ensures { shown_working result ≡ working (L.known library.now) dictionary.now buffer.now (plain_numbers form) }
 {
     if form.version > number_at(dictionary, 5) {
         return not_this_form();
@@ -121,8 +121,8 @@ pub fn works_on<'a, L: TypeLibrary>(
     buffer: &[u8],
     form: Numbers,
 ) -> Result<Section<'a>, Refusal>
-    ensures value { shown_working result ≡ working (known library.now) dictionary.now buffer.now (plain_numbers form) }
-    ensures ready { Ready (known library.now) result form.length }
+    ensures value { shown_working result ≡ working (L.known library.now) dictionary.now buffer.now (plain_numbers form) }
+    ensures ready { Ready (L.known library.now) result form.length }
     ensures bytes { Bytes buffer.now }
 {
     seen(buffer);
@@ -136,7 +136,7 @@ pub fn check_closed<L: TypeLibrary>(
     buffer: &[u8],
     form: Numbers,
 ) -> Result<(), Refusal>
-    ensures { result ≡ close_step (known library.now) dictionary.now buffer.now (plain_numbers form) }
+    ensures { result ≡ close_step (L.known library.now) dictionary.now buffer.now (plain_numbers form) }
 {
     working_section(dictionary, library, buffer, form)?;
     judge(library, true, dictionary, upto(buffer, form.length))?;

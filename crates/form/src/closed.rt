@@ -57,7 +57,7 @@ impl ClosedForm {
         library: &L,
         buffer: &[u8],
     ) -> Result<OpenForm, (ClosedForm, Refusal)>
-        ensures { ReopensIt (known library.now) (dictionary_of dictionary.now) (reopening (known library.now) dictionary.now (by_buffer (known library.now) dictionary.now buffer.now) (closed_numbers self)) result self buffer.now }
+        ensures { ReopensIt (L.known library.now) (dictionary_of dictionary.now) (reopening (L.known library.now) dictionary.now (by_buffer (L.known library.now) dictionary.now buffer.now) (closed_numbers self)) result self buffer.now }
     {
         match works_on(dictionary, library, buffer, self.numbers()) {
             Ok(_) => {

@@ -30,7 +30,7 @@ impl OpenForm {
         template: u16,
         version: u16,
     ) -> Result<OpenForm, Refusal>
-        ensures { Opens (known library.now) (dictionary_of dictionary.now) (opening (known library.now) dictionary.now (length buffer.old) template version) result buffer.old buffer.new }
+        ensures { Opens (L.known library.now) (dictionary_of dictionary.now) (opening (L.known library.now) dictionary.now (length buffer.old) template version) result buffer.old buffer.new }
     {
         let length = open_frame(dictionary, library, buffer, template, version)?;
         Ok(OpenForm {
@@ -83,7 +83,7 @@ impl OpenForm {
         tag: u32,
         value: Value<'_>,
     ) -> Result<(), Refusal>
-        ensures { Fills (known library.now) (dictionary_of dictionary.now) (filling (known library.now) dictionary.now (by_buffer (known library.now) dictionary.now buffer.old) (length buffer.old) (open_numbers self.old) (set group entry tag (meaning value.entry))) result self.old self.new buffer.old buffer.new }
+        ensures { Fills (L.known library.now) (dictionary_of dictionary.now) (filling (L.known library.now) dictionary.now (by_buffer (L.known library.now) dictionary.now buffer.old) (length buffer.old) (open_numbers self.old) (set group entry tag (meaning value.entry))) result self.old self.new buffer.old buffer.new }
     {
         let section = works_on(dictionary, library, buffer, self.numbers())?;
         self.length = set_field(
@@ -110,7 +110,7 @@ impl OpenForm {
         entry: usize,
         tag: u32,
     ) -> Result<(), Refusal>
-        ensures { Fills (known library.now) (dictionary_of dictionary.now) (filling (known library.now) dictionary.now (by_buffer (known library.now) dictionary.now buffer.old) (length buffer.old) (open_numbers self.old) (clear group entry tag)) result self.old self.new buffer.old buffer.new }
+        ensures { Fills (L.known library.now) (dictionary_of dictionary.now) (filling (L.known library.now) dictionary.now (by_buffer (L.known library.now) dictionary.now buffer.old) (length buffer.old) (open_numbers self.old) (clear group entry tag)) result self.old self.new buffer.old buffer.new }
     {
         let section = works_on(dictionary, library, buffer, self.numbers())?;
         self.length = clear_field(
@@ -134,7 +134,7 @@ impl OpenForm {
         buffer: &mut [u8],
         group: u32,
     ) -> Result<(), Refusal>
-        ensures { Fills (known library.now) (dictionary_of dictionary.now) (filling (known library.now) dictionary.now (by_buffer (known library.now) dictionary.now buffer.old) (length buffer.old) (open_numbers self.old) (append group)) result self.old self.new buffer.old buffer.new }
+        ensures { Fills (L.known library.now) (dictionary_of dictionary.now) (filling (L.known library.now) dictionary.now (by_buffer (L.known library.now) dictionary.now buffer.old) (length buffer.old) (open_numbers self.old) (append group)) result self.old self.new buffer.old buffer.new }
     {
         let section = works_on(dictionary, library, buffer, self.numbers())?;
         self.length = append_entry(library, section, self.version, self.length, buffer, group)?;
@@ -149,7 +149,7 @@ impl OpenForm {
         buffer: &mut [u8],
         group: u32,
     ) -> Result<(), Refusal>
-        ensures { Fills (known library.now) (dictionary_of dictionary.now) (filling (known library.now) dictionary.now (by_buffer (known library.now) dictionary.now buffer.old) (length buffer.old) (open_numbers self.old) (remove group)) result self.old self.new buffer.old buffer.new }
+        ensures { Fills (L.known library.now) (dictionary_of dictionary.now) (filling (L.known library.now) dictionary.now (by_buffer (L.known library.now) dictionary.now buffer.old) (length buffer.old) (open_numbers self.old) (remove group)) result self.old self.new buffer.old buffer.new }
     {
         let section = works_on(dictionary, library, buffer, self.numbers())?;
         self.length = drop_entry(section, self.version, self.length, buffer, group)?;
@@ -165,7 +165,7 @@ impl OpenForm {
         tag: u32,
         content: &[u8],
     ) -> Result<(), Refusal>
-        ensures { Fills (known library.now) (dictionary_of dictionary.now) (filling (known library.now) dictionary.now (by_buffer (known library.now) dictionary.now buffer.old) (length buffer.old) (open_numbers self.old) (write tag content.now)) result self.old self.new buffer.old buffer.new }
+        ensures { Fills (L.known library.now) (dictionary_of dictionary.now) (filling (L.known library.now) dictionary.now (by_buffer (L.known library.now) dictionary.now buffer.old) (length buffer.old) (open_numbers self.old) (write tag content.now)) result self.old self.new buffer.old buffer.new }
     {
         let section = works_on(dictionary, library, buffer, self.numbers())?;
         self.length = write_data(section, self.version, self.length, buffer, tag, content)?;
@@ -179,7 +179,7 @@ impl OpenForm {
         library: &L,
         buffer: &[u8],
     ) -> Result<ClosedForm, (OpenForm, Refusal)>
-        ensures { ClosesIt (known library.now) (dictionary_of dictionary.now) (closing (known library.now) dictionary.now (by_buffer (known library.now) dictionary.now buffer.now) (open_numbers self)) result self buffer.now }
+        ensures { ClosesIt (L.known library.now) (dictionary_of dictionary.now) (closing (L.known library.now) dictionary.now (by_buffer (L.known library.now) dictionary.now buffer.now) (open_numbers self)) result self buffer.now }
     {
         match check_closed(dictionary, library, buffer, self.numbers()) {
             Ok(_) => {

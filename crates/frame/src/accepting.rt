@@ -17,8 +17,8 @@ pub fn accept<'a, L: TypeLibrary>(
     library: &L,
     bytes: &'a [u8],
 ) -> Result<Frame<'a>, Refusal>
-    ensures value { Accepts result (frame_verdict (known library.now) dictionary.now bytes.now) bytes.entry dictionary.entry }
-    ensures exact { Checked (known library.now) dictionary.now → stated_version bytes.now ≤ (dictionary_of dictionary.now).version → AcceptedExactlyAsAFrame true (known library.now) dictionary.now bytes.now }
+    ensures value { Accepts result (frame_verdict (L.known library.now) dictionary.now bytes.now) bytes.entry dictionary.entry }
+    ensures exact { Checked (L.known library.now) dictionary.now → stated_version bytes.now ≤ (dictionary_of dictionary.now).version → AcceptedExactlyAsAFrame true (L.known library.now) dictionary.now bytes.now }
 {
     seen(bytes);
     judge(library, true, dictionary, bytes)?;

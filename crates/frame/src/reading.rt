@@ -75,7 +75,7 @@ fn field_value<'a, L: TypeLibrary>(
     f: FieldLine<'_>,
 ) -> Result<Option<Value<'a>>, Refusal>
     requires { base < 2 ^ 63 + 2 ^ 62 + 2 ^ 61 }
-    ensures { meant result ≡ field_reading (known library.now) version bytes.now base (shown_field f.entry) }
+    ensures { meant result ≡ field_reading (L.known library.now) version bytes.now base (shown_field f.entry) }
 {
     if f.since > version {
         return Ok(None);
@@ -99,7 +99,7 @@ fn read_field<'a, L: TypeLibrary>(
     f: FieldLine<'_>,
 ) -> Result<Reading<'a>, Refusal>
     requires { base < 2 ^ 63 + 2 ^ 62 + 2 ^ 61 }
-    ensures { shown_reading result ≡ as_meaning (field_reading (known library.now) version bytes.now base (shown_field f.entry)) }
+    ensures { shown_reading result ≡ as_meaning (field_reading (L.known library.now) version bytes.now base (shown_field f.entry)) }
 {
     match field_value(library, version, bytes, base, f)? {
         None => Ok(Reading::Absent),
@@ -117,7 +117,7 @@ fn read_block<'a, L: TypeLibrary>(
     tag: u32,
 ) -> Result<Reading<'a>, Refusal>
     requires { base < 2 ^ 63 + 2 ^ 62 + 2 ^ 61 }
-    ensures { shown_reading result ≡ of_field (field_at (known library.now) version bytes.now base (fields_in lines.now) tag) tag }
+    ensures { shown_reading result ≡ of_field (field_at (L.known library.now) version bytes.now base (fields_in lines.now) tag) tag }
 {
     let Some(f) = find_field(lines, tag) else {
         return not_found(tag);
@@ -137,7 +137,7 @@ fn read_entry<'a, L: TypeLibrary>(
     tag: u32,
 ) -> Result<Reading<'a>, Refusal>
     requires { place < 2 ^ 63 + 2 ^ 62 }
-    ensures { shown_reading result ≡ entry_at (known library.now) version bytes.now place (fields_in lines.now) group entry tag }
+    ensures { shown_reading result ≡ entry_at (L.known library.now) version bytes.now place (fields_in lines.now) group entry tag }
 {
     let head = beyond(bytes, place);
     if entry >= entry_count(head) as usize {
@@ -159,7 +159,7 @@ fn read_group<'a, L: TypeLibrary>(
     tag: u32,
 ) -> Result<Reading<'a>, Refusal>
     requires { place ≤ 65547 }
-    ensures { shown_reading result ≡ group_at (known library.now) version bytes.now place (groups_in lines.now) group index tag }
+    ensures { shown_reading result ≡ group_at (L.known library.now) version bytes.now place (groups_in lines.now) group index tag }
 {
     let mut left = lines;
     let mut at = place;
@@ -235,7 +235,7 @@ fn read_root<'a, L: TypeLibrary>(
     lines: &[u8],
     tag: u32,
 ) -> Result<Reading<'a>, Refusal>
-    ensures { shown_reading result ≡ of_root (field_at (known library.now) version bytes.now 12 (fields_in lines.now) tag) (part_at version bytes.now (groups_end bytes.now (12 + stated_root bytes.now) (groups_in lines.now)) (parts_in lines.now) tag) tag }
+    ensures { shown_reading result ≡ of_root (field_at (L.known library.now) version bytes.now 12 (fields_in lines.now) tag) (part_at version bytes.now (groups_end bytes.now (12 + stated_root bytes.now) (groups_in lines.now)) (parts_in lines.now) tag) tag }
 {
     let Some(f) = find_field(lines, tag) else {
         let behind = beyond(bytes, HEADER + stated_at(bytes, 4) as usize);
@@ -254,7 +254,7 @@ fn read_template<'a, L: TypeLibrary>(
     entry: usize,
     tag: u32,
 ) -> Result<Reading<'a>, Refusal>
-    ensures { shown_reading result ≡ in_bytes (known library.now) version bytes.now (template_of (shown_section section.entry)) group entry tag }
+    ensures { shown_reading result ≡ in_bytes (L.known library.now) version bytes.now (template_of (shown_section section.entry)) group entry tag }
 {
     if group != 0 {
         let place = HEADER + stated_at(bytes, 4) as usize;
@@ -285,9 +285,9 @@ impl<'a> Frame<'a> {
         entry: usize,
         tag: u32,
     ) -> Result<Reading<'a>, Refusal>
-        ensures value { shown_reading result ≡ frame_reading (known library.now) self.now.dictionary.now self.now.bytes.now group entry tag }
-        ensures message { Checked (known library.now) self.now.dictionary.now → frame_verdict (known library.now) self.now.dictionary.now self.now.bytes.now ≡ fine → shown_reading result ≡ message_reading (dictionary_of self.now.dictionary.now) (message_of (known library.now) (dictionary_of self.now.dictionary.now) self.now.bytes.now) group entry tag }
-        ensures another { Checked (known library.now) self.now.dictionary.now → (other : Known) → frame_verdict other self.now.dictionary.now self.now.bytes.now ≡ fine → SameKindsFor (known library.now) other self.now.dictionary.now self.now.bytes.now → shown_reading result ≡ message_reading (dictionary_of self.now.dictionary.now) (message_of other (dictionary_of self.now.dictionary.now) self.now.bytes.now) group entry tag }
+        ensures value { shown_reading result ≡ frame_reading (L.known library.now) self.now.dictionary.now self.now.bytes.now group entry tag }
+        ensures message { Checked (L.known library.now) self.now.dictionary.now → frame_verdict (L.known library.now) self.now.dictionary.now self.now.bytes.now ≡ fine → shown_reading result ≡ message_reading (dictionary_of self.now.dictionary.now) (message_of (L.known library.now) (dictionary_of self.now.dictionary.now) self.now.bytes.now) group entry tag }
+        ensures another { Checked (L.known library.now) self.now.dictionary.now → (other : Known) → frame_verdict other self.now.dictionary.now self.now.bytes.now ≡ fine → SameKindsFor (L.known library.now) other self.now.dictionary.now self.now.bytes.now → shown_reading result ≡ message_reading (dictionary_of self.now.dictionary.now) (message_of other (dictionary_of self.now.dictionary.now) self.now.bytes.now) group entry tag }
     {
         let version = stated_at(self.bytes, 10);
         let Some(found) = find(self.dictionary, stated_at(self.bytes, 6), version) else {

@@ -40,7 +40,7 @@ fn no_spot(tag: u32) -> Result<Spot, Refusal>
 // Where a field of a block at `base` lies.
 fn spot_field<L: TypeLibrary>(library: &L, version: u16, base: usize, f: FieldLine<'_>) -> Spot
     requires { base < 2 ^ 63 + 2 ^ 62 + 2 ^ 61 }
-    ensures { result ≡ spot_of (known library.now) (spot_of_field version base (shown_field f.entry)) }
+    ensures { result ≡ spot_of (L.known library.now) (spot_of_field version base (shown_field f.entry)) }
 {
     if f.since > version {
         return Spot {
@@ -64,7 +64,7 @@ fn spot_block<L: TypeLibrary>(
     tag: u32,
 ) -> Result<Spot, Refusal>
     requires { base < 2 ^ 63 + 2 ^ 62 + 2 ^ 61 }
-    ensures { result ≡ spots (known library.now) (spot_or (field_spot version bytes.now base (fields_in lines.now) tag) tag) }
+    ensures { result ≡ spots (L.known library.now) (spot_or (field_spot version bytes.now base (fields_in lines.now) tag) tag) }
 {
     let Some(f) = find_field(lines, tag) else {
         return no_spot(tag);
@@ -84,7 +84,7 @@ fn spot_entry<L: TypeLibrary>(
     tag: u32,
 ) -> Result<Spot, Refusal>
     requires { place < 2 ^ 63 + 2 ^ 62 }
-    ensures { result ≡ spots (known library.now) (entry_spot version bytes.now place (fields_in lines.now) group entry tag) }
+    ensures { result ≡ spots (L.known library.now) (entry_spot version bytes.now place (fields_in lines.now) group entry tag) }
 {
     let head = beyond(bytes, place);
     if entry >= entry_count(head) as usize {
@@ -106,7 +106,7 @@ fn spot_group<L: TypeLibrary>(
     tag: u32,
 ) -> Result<Spot, Refusal>
     requires { place ≤ 65547 }
-    ensures { result ≡ spots (known library.now) (group_spot version bytes.now place (groups_in lines.now) group index tag) }
+    ensures { result ≡ spots (L.known library.now) (group_spot version bytes.now place (groups_in lines.now) group index tag) }
 {
     let mut left = lines;
     let mut at = place;
@@ -144,7 +144,7 @@ fn spot_data<L: TypeLibrary>(
     part: NextPart<'_>,
 ) -> Spot
     requires { place < 2 ^ 63 + 2 ^ 62 + 2 ^ 61 }
-    ensures { result ≡ spot_of (known library.now) (spot_of_part version bytes.now place (data_at part.entry)) }
+    ensures { result ≡ spot_of (L.known library.now) (spot_of_part version bytes.now place (data_at part.entry)) }
 {
     if part.since > version {
         return Spot {
@@ -181,7 +181,7 @@ fn spot_part<L: TypeLibrary>(
     tag: u32,
 ) -> Result<Spot, Refusal>
     requires { place ≤ 2 ^ 63 + 2 ^ 62 }
-    ensures { result ≡ spots (known library.now) (spot_or (part_spot version bytes.now place (parts_in lines.now) tag) tag) }
+    ensures { result ≡ spots (L.known library.now) (spot_or (part_spot version bytes.now place (parts_in lines.now) tag) tag) }
 {
     let mut left = lines;
     let mut at = place;
@@ -203,7 +203,7 @@ fn spot_root<L: TypeLibrary>(
     lines: &[u8],
     tag: u32,
 ) -> Result<Spot, Refusal>
-    ensures { result ≡ spots (known library.now) (spot_or (first_of (field_spot version bytes.now 12 (fields_in lines.now) tag) (part_spot version bytes.now (groups_end bytes.now (12 + stated_root bytes.now) (groups_in lines.now)) (parts_in lines.now) tag)) tag) }
+    ensures { result ≡ spots (L.known library.now) (spot_or (first_of (field_spot version bytes.now 12 (fields_in lines.now) tag) (part_spot version bytes.now (groups_end bytes.now (12 + stated_root bytes.now) (groups_in lines.now)) (parts_in lines.now) tag)) tag) }
 {
     let Some(f) = find_field(lines, tag) else {
         let behind = groups_end(lines, bytes, HEADER + stated_at(bytes, 4) as usize);
@@ -222,7 +222,7 @@ fn spot_template<L: TypeLibrary>(
     entry: usize,
     tag: u32,
 ) -> Result<Spot, Refusal>
-    ensures { result ≡ spots (known library.now) (template_spot version bytes.now (template_of (shown_section section.entry)) group entry tag) }
+    ensures { result ≡ spots (L.known library.now) (template_spot version bytes.now (template_of (shown_section section.entry)) group entry tag) }
 {
     if group != 0 {
         let place = HEADER + stated_at(bytes, 4) as usize;
@@ -252,7 +252,7 @@ impl<'a> Frame<'a> {
         entry: usize,
         tag: u32,
     ) -> Result<Spot, Refusal>
-        ensures { result ≡ spots (known library.now) (frame_spot (known library.now) self.now.dictionary.now self.now.bytes.now group entry tag) }
+        ensures { result ≡ spots (L.known library.now) (frame_spot (L.known library.now) self.now.dictionary.now self.now.bytes.now group entry tag) }
     {
         let version = stated_at(self.bytes, 10);
         let Some(found) = find(self.dictionary, stated_at(self.bytes, 6), version) else {

@@ -249,7 +249,7 @@ fn field_item<'a, L: TypeLibrary>(
     f: FieldLine<'a>,
 ) -> Item<'a>
     requires { base ≤ 17592186044416 }
-    ensures { shown_item result ≡ Some (field_item (known library.now) bytes.now base (shown_field f.entry)) }
+    ensures { shown_item result ≡ Some (field_item (L.known library.now) bytes.now base (shown_field f.entry)) }
 {
     let place = base + f.offset as usize;
     Item::Field {
@@ -348,7 +348,7 @@ fn field_step<'a, L: TypeLibrary>(
 ) -> Step<'a>
     requires room { roomy (shown_spot at) ≡ true }
     requires here { Some (shown_field f) ≡ seen_first at.version (first_line at.left.now) }
-    ensures { Stepped (known library.now) bytes.now (shown_spot at.entry) result }
+    ensures { Stepped (L.known library.now) bytes.now (shown_spot at.entry) result }
 {
     Step {
         item: field_item(library, bytes, at.base, f),
@@ -368,7 +368,7 @@ fn group_step<'a, L: TypeLibrary>(
     requires last { at.entries ≡ 0 }
     requires here { groups_by (Some g) ≡ groups_of (there (lines at.groups.now)) }
     requires less { length g.behind.now < length at.groups.now }
-    ensures { Stepped (known library.now) bytes.now (shown_spot at.entry) result }
+    ensures { Stepped (L.known library.now) bytes.now (shown_spot at.entry) result }
 {
     seen(bytes);
     Step {
@@ -390,7 +390,7 @@ fn part_step<'a, L: TypeLibrary>(
     requires ended { [] ≡ groups_of (there (lines at.groups.now)) }
     requires here { parts_by at.version (Some d) ≡ parts_from at.version at.parts.now }
     requires less { length d.behind.now < length at.parts.now }
-    ensures { Stepped (known library.now) bytes.now (shown_spot at.entry) result }
+    ensures { Stepped (L.known library.now) bytes.now (shown_spot at.entry) result }
 {
     seen(bytes);
     Step {
@@ -405,7 +405,7 @@ fn step_in_parts<'a, L: TypeLibrary>(library: &L, bytes: &'a [u8], at: At<'a>) -
     requires behind { None ≡ seen_first at.version (first_line at.left.now) }
     requires last { at.entries ≡ 0 }
     requires ended { [] ≡ groups_of (there (lines at.groups.now)) }
-    ensures { Stepped (known library.now) bytes.now (shown_spot at.entry) result }
+    ensures { Stepped (L.known library.now) bytes.now (shown_spot at.entry) result }
 {
     match first_part(at.parts, at.version) {
         Some(d) => part_step(library, bytes, at, d),
@@ -421,7 +421,7 @@ fn step_in_groups<'a, L: TypeLibrary>(library: &L, bytes: &'a [u8], at: At<'a>) 
     requires room { roomy (shown_spot at) ≡ true }
     requires behind { None ≡ seen_first at.version (first_line at.left.now) }
     requires last { at.entries ≡ 0 }
-    ensures { Stepped (known library.now) bytes.now (shown_spot at.entry) result }
+    ensures { Stepped (L.known library.now) bytes.now (shown_spot at.entry) result }
 {
     match first_group(at.groups) {
         Some(g) => group_step(library, bytes, at, g),
@@ -433,7 +433,7 @@ fn step_in_groups<'a, L: TypeLibrary>(library: &L, bytes: &'a [u8], at: At<'a>) 
 fn step_in_entries<'a, L: TypeLibrary>(library: &L, bytes: &'a [u8], at: At<'a>) -> Step<'a>
     requires room { roomy (shown_spot at) ≡ true }
     requires behind { None ≡ seen_first at.version (first_line at.left.now) }
-    ensures { Stepped (known library.now) bytes.now (shown_spot at.entry) result }
+    ensures { Stepped (L.known library.now) bytes.now (shown_spot at.entry) result }
 {
     if at.entries == 0 {
         return step_in_groups(library, bytes, at);
@@ -447,7 +447,7 @@ fn step_in_entries<'a, L: TypeLibrary>(library: &L, bytes: &'a [u8], at: At<'a>)
 // The next item.
 fn next_step<'a, L: TypeLibrary>(library: &L, bytes: &'a [u8], at: At<'a>) -> Step<'a>
     requires { roomy (shown_spot at) ≡ true }
-    ensures { Stepped (known library.now) bytes.now (shown_spot at.entry) result }
+    ensures { Stepped (L.known library.now) bytes.now (shown_spot at.entry) result }
 {
     match seen_field(at.left, at.version) {
         Some(f) => field_step(library, bytes, at, f),
@@ -466,8 +466,8 @@ pub struct Walk<'a, L: TypeLibrary> {
 impl<'a, L: TypeLibrary> Walk<'a, L> {
     // The next item, and the end for ever after the last.
     pub fn next(&mut self) -> Item<'a>
-        ensures item { shown_item result ≡ first_of (remaining (known self.old.library.now) self.old) }
-        ensures rest { remaining (known self.old.library.now) self.new ≡ rest_of (remaining (known self.old.library.now) self.old) }
+        ensures item { shown_item result ≡ first_of (remaining (L.known self.old.library.now) self.old) }
+        ensures rest { remaining (L.known self.old.library.now) self.new ≡ rest_of (remaining (L.known self.old.library.now) self.old) }
         ensures library { self.new.library ≡ self.old.library }
         ensures frame { self.new.bytes ≡ self.old.bytes }
     {
@@ -486,7 +486,7 @@ fn begin<'a, L: TypeLibrary>(
     dictionary: &'a [u8],
     bytes: &'a [u8],
 ) -> Result<Walk<'a, L>, Refusal>
-    ensures items { all_remaining (known library.now) result ≡ frame_items (known library.now) dictionary.now bytes.now }
+    ensures items { all_remaining (L.known library.now) result ≡ frame_items (L.known library.now) dictionary.now bytes.now }
     ensures holds { WalksOver library.entry bytes.entry result }
 {
     seen(dictionary);
@@ -516,9 +516,9 @@ fn begin<'a, L: TypeLibrary>(
 impl<'a> Frame<'a> {
     // A walk over the frame: its root fields, then each group with the fields of its entries, then the data, as the frame's version shows them.
     pub fn walk<L: TypeLibrary>(&self, library: &'a L) -> Result<Walk<'a, L>, Refusal>
-        ensures items { all_remaining (known library.now) result ≡ frame_items (known library.now) self.now.dictionary.now self.now.bytes.now }
+        ensures items { all_remaining (L.known library.now) result ≡ frame_items (L.known library.now) self.now.dictionary.now self.now.bytes.now }
         ensures holds { WalksOver library.entry self.now.bytes result }
-        ensures through { Checked (known library.now) self.now.dictionary.now → frame_verdict (known library.now) self.now.dictionary.now self.now.bytes.now ≡ fine → WalkedThrough (known library.now) self.now.dictionary.now self.now.bytes.now }
+        ensures through { Checked (L.known library.now) self.now.dictionary.now → frame_verdict (L.known library.now) self.now.dictionary.now self.now.bytes.now ≡ fine → WalkedThrough (L.known library.now) self.now.dictionary.now self.now.bytes.now }
     {
         begin(library, self.dictionary, self.bytes)
     }

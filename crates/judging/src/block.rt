@@ -34,7 +34,7 @@ fn check_field<L: TypeLibrary>(
     place: usize,
     bytes: &[u8],
 ) -> Result<(), Refusal>
-    ensures { result ≡ field_verdict (kind_of (known library.now) (shown_field f.entry)) (closed && f.entry.presence == 1) place f.entry.tag bytes.now }
+    ensures { result ≡ field_verdict (kind_of (L.known library.now) (shown_field f.entry)) (closed && f.entry.presence == 1) place f.entry.tag bytes.now }
 {
     let value = located(library.read(f.number, f.argument, bytes), place, f.tag)?;
     match value {
@@ -54,7 +54,7 @@ fn check_field<L: TypeLibrary>(
 
 // The width of a field, 0 where its type is unknown.
 pub fn width_of<L: TypeLibrary>(library: &L, f: FieldLine<'_>) -> usize
-    ensures value { result ≡ width_or_0 (kind_of (known library.now) (shown_field f.entry)) }
+    ensures value { result ≡ width_or_0 (kind_of (L.known library.now) (shown_field f.entry)) }
     ensures bound { result ≤ 20 }
 {
     match library.width(f.number, f.argument) {
@@ -74,7 +74,7 @@ fn check_one<L: TypeLibrary>(
 ) -> Result<(), Refusal>
     requires room { base < 2 ^ 62 }
     requires inside { at ≤ 65555 }
-    ensures { result ≡ one_verdict (known library.now) closed base at (shown_field f.entry) rest.now }
+    ensures { result ≡ one_verdict (L.known library.now) closed base at (shown_field f.entry) rest.now }
 {
     let gap = (f.offset as usize).saturating_sub(at);
     check_padding(upto(rest, gap), base + at)?;
@@ -100,7 +100,7 @@ pub fn check_fields<L: TypeLibrary>(
 ) -> Result<(), Refusal>
     requires room { base < 2 ^ 62 }
     requires block { size ≤ 65535 }
-    ensures { result ≡ fields_verdict closed base 0 (slots_from (known library.now) version lines.now) size bytes.now }
+    ensures { result ≡ fields_verdict closed base 0 (slots_from (L.known library.now) version lines.now) size bytes.now }
 {
     let mut left = lines;
     let mut rest = bytes;

@@ -57,7 +57,7 @@ fn check_entries<L: TypeLibrary>(
     bytes: &[u8],
 ) -> Result<(), Refusal>
     requires { place + length bytes.now < 2 ^ 62 }
-    ensures { result ≡ entries_verdict closed (block_at (known library.now) version size lines.now) stride tag count place bytes.now }
+    ensures { result ≡ entries_verdict closed (block_at (L.known library.now) version size lines.now) stride tag count place bytes.now }
 {
     let own = length_at(version, size, lines) as usize;
     let mut left = count;
@@ -119,7 +119,7 @@ fn check_group<L: TypeLibrary>(
     bytes: &[u8],
 ) -> Result<usize, Refusal>
     requires { place + length bytes.now < 2 ^ 61 }
-    ensures value { result ≡ group_step (known library.now) version closed newer group.entry.tag group.entry.size group.entry.rest.now place bytes.now }
+    ensures value { result ≡ group_step (L.known library.now) version closed newer group.entry.tag group.entry.size group.entry.rest.now place bytes.now }
 {
     let own = length_at(version, group.size, group.rest) as usize;
     check_head(newer, group.tag, own, place, bytes)?;
@@ -151,7 +151,7 @@ pub fn check_groups<L: TypeLibrary>(
     bytes: &[u8],
 ) -> Result<usize, Refusal>
     requires { place + length bytes.now < 2 ^ 61 }
-    ensures value { result ≡ groups_step closed newer (groups_seen (known library.now) version lines.now) place bytes.now }
+    ensures value { result ≡ groups_step closed newer (groups_seen (L.known library.now) version lines.now) place bytes.now }
     ensures within { Within result (length bytes.now) }
 {
     let mut left = lines;

@@ -62,7 +62,7 @@ fn check_behind_root<L: TypeLibrary>(
     bytes: &[u8],
 ) -> Result<(), Refusal>
     requires { place + length bytes.now < 2 ^ 61 }
-    ensures { result ≡ behind_root (known library.now) closed newer version body.now place bytes.now }
+    ensures { result ≡ behind_root (L.known library.now) closed newer version body.now place bytes.now }
 {
     let n = check_groups(library, body, version, closed, newer, place, bytes)?;
     check_parts(body, version, newer, place + n, beyond(bytes, n))
@@ -80,7 +80,7 @@ fn check_contents<L: TypeLibrary>(
 ) -> Result<(), Refusal>
     requires small { given ≤ 65535 }
     requires room { length rest.now < 2 ^ 60 }
-    ensures { result ≡ contents_step (known library.now) closed newer version section.entry.size section.entry.body.now given rest.now }
+    ensures { result ≡ contents_step (L.known library.now) closed newer version section.entry.size section.entry.body.now given rest.now }
 {
     let own = length_at(version, section.size, section.body) as usize;
     if !is_length(newer, given, own) {
@@ -122,7 +122,7 @@ fn check_found<L: TypeLibrary>(
     requires inside { found.place + 8 + length found.section.body.now < 2 ^ 63 }
     requires small { given ≤ 65535 }
     requires room { length rest.now < 2 ^ 60 }
-    ensures { result ≡ found_step (known library.now) closed (nat_lt last version) last version given rest.now (Some (placed_section found.entry)) }
+    ensures { result ≡ found_step (L.known library.now) closed (nat_lt last version) last version given rest.now (Some (placed_section found.entry)) }
 {
     found.section.check_geometry(library, last, found.place)?;
     check_contents(
@@ -144,7 +144,7 @@ fn check_template<L: TypeLibrary>(
     bytes: &[u8],
 ) -> Result<(), Refusal>
     requires { length bytes.now < 2 ^ 60 }
-    ensures { result ≡ template_step (known library.now) closed dictionary.now bytes.now }
+    ensures { result ≡ template_step (L.known library.now) closed dictionary.now bytes.now }
 {
     let version = stated_at(bytes, 10);
     let Some(found) = find(dictionary, stated_at(bytes, 6), version) else {
@@ -172,7 +172,7 @@ pub fn judge<L: TypeLibrary>(
     dictionary: &[u8],
     bytes: &[u8],
 ) -> Result<(), Refusal>
-    ensures { result ≡ verdict_when closed (known library.now) dictionary.now bytes.now }
+    ensures { result ≡ verdict_when closed (L.known library.now) dictionary.now bytes.now }
 {
     check_header(dictionary, bytes)?;
     check_template(library, closed, dictionary, bytes)

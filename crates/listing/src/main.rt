@@ -271,7 +271,7 @@ fn value_line<'a, L: TypeLibrary>(
     argument: &[u8],
     bytes: &'a [u8],
 ) -> Line<'a>
-    ensures { shown_line result ≡ value_line (known library.now) inside place at tag number argument.now bytes.now }
+    ensures { shown_line result ≡ value_line (L.known library.now) inside place at tag number argument.now bytes.now }
 {
     match located(library.read(number, argument, bytes), at, tag) {
         Ok(value) => field_line(inside, tag, value),
@@ -286,7 +286,7 @@ fn item_line<'a, L: TypeLibrary>(
     place: usize,
     item: Item<'a>,
 ) -> Option<Line<'a>>
-    ensures { option_map shown_line result ≡ option_map (item_line (known library.now) inside place) (shown_item item.entry) }
+    ensures { option_map shown_line result ≡ option_map (item_line (L.known library.now) inside place) (shown_item item.entry) }
 {
     match item {
         Item::Field {

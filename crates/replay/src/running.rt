@@ -23,7 +23,7 @@ fn open_turn<L: TypeLibrary>(
     template: u16,
     version: u16,
 ) -> (Form, Answer)
-    ensures { Turned (known library.now) dictionary.now (shown_form form) buffer.old (begin template version) result.0 result.1 buffer.new }
+    ensures { Turned (L.known library.now) dictionary.now (shown_form form) buffer.old (begin template version) result.0 result.1 buffer.new }
 {
     match OpenForm::open(dictionary, library, buffer, template, version) {
         Ok(held) => {
@@ -45,7 +45,7 @@ fn set_turn<L: TypeLibrary>(
     tag: u32,
     value: Value<'_>,
 ) -> (Form, Answer)
-    ensures { Turned (known library.now) dictionary.now (shown_form form) buffer.old (fill (set group entry tag (meaning value.entry))) result.0 result.1 buffer.new }
+    ensures { Turned (L.known library.now) dictionary.now (shown_form form) buffer.old (fill (set group entry tag (meaning value.entry))) result.0 result.1 buffer.new }
 {
     match form {
         Form::Open(held) => {
@@ -70,7 +70,7 @@ fn clear_turn<L: TypeLibrary>(
     entry: usize,
     tag: u32,
 ) -> (Form, Answer)
-    ensures { Turned (known library.now) dictionary.now (shown_form form) buffer.old (fill (clear group entry tag)) result.0 result.1 buffer.new }
+    ensures { Turned (L.known library.now) dictionary.now (shown_form form) buffer.old (fill (clear group entry tag)) result.0 result.1 buffer.new }
 {
     match form {
         Form::Open(held) => {
@@ -91,7 +91,7 @@ fn append_turn<L: TypeLibrary>(
     form: Form,
     group: u32,
 ) -> (Form, Answer)
-    ensures { Turned (known library.now) dictionary.now (shown_form form) buffer.old (fill (append group)) result.0 result.1 buffer.new }
+    ensures { Turned (L.known library.now) dictionary.now (shown_form form) buffer.old (fill (append group)) result.0 result.1 buffer.new }
 {
     match form {
         Form::Open(held) => {
@@ -112,7 +112,7 @@ fn drop_turn<L: TypeLibrary>(
     form: Form,
     group: u32,
 ) -> (Form, Answer)
-    ensures { Turned (known library.now) dictionary.now (shown_form form) buffer.old (fill (remove group)) result.0 result.1 buffer.new }
+    ensures { Turned (L.known library.now) dictionary.now (shown_form form) buffer.old (fill (remove group)) result.0 result.1 buffer.new }
 {
     match form {
         Form::Open(held) => {
@@ -134,7 +134,7 @@ fn write_turn<L: TypeLibrary>(
     tag: u32,
     content: &[u8],
 ) -> (Form, Answer)
-    ensures { Turned (known library.now) dictionary.now (shown_form form) buffer.old (fill (write tag content.now)) result.0 result.1 buffer.new }
+    ensures { Turned (L.known library.now) dictionary.now (shown_form form) buffer.old (fill (write tag content.now)) result.0 result.1 buffer.new }
 {
     match form {
         Form::Open(held) => {
@@ -154,7 +154,7 @@ fn close_turn<L: TypeLibrary>(
     buffer: &[u8],
     form: Form,
 ) -> (Form, Answer)
-    ensures { Turned (known library.now) dictionary.now (shown_form form) buffer.now close result.0 result.1 buffer.now }
+    ensures { Turned (L.known library.now) dictionary.now (shown_form form) buffer.now close result.0 result.1 buffer.now }
 {
     match form {
         Form::Open(held) => match held.close(dictionary, library, buffer) {
@@ -173,7 +173,7 @@ fn reopen_turn<L: TypeLibrary>(
     buffer: &[u8],
     form: Form,
 ) -> (Form, Answer)
-    ensures { Turned (known library.now) dictionary.now (shown_form form) buffer.now reopen result.0 result.1 buffer.now }
+    ensures { Turned (L.known library.now) dictionary.now (shown_form form) buffer.now reopen result.0 result.1 buffer.now }
 {
     match form {
         Form::Closed(held) => match held.reopen(dictionary, library, buffer) {
@@ -193,7 +193,7 @@ fn turn<L: TypeLibrary>(
     form: Form,
     call: Call<'_>,
 ) -> (Form, Answer)
-    ensures made { Turned (known library.now) dictionary.now (shown_form form) buffer.old (shown_call call.entry) result.0 result.1 buffer.new }
+    ensures made { Turned (L.known library.now) dictionary.now (shown_form form) buffer.old (shown_call call.entry) result.0 result.1 buffer.new }
     ensures sayable { SayableCall (shown_call call.entry) }
 {
     sayable(call);
@@ -229,10 +229,10 @@ pub fn run<L: TypeLibrary>(
     calls: &[Call<'_>],
     answers: &mut [Answer],
 ) -> Form
-    ensures form { shown_form result ≡ (run_by_buffer (known library.now) dictionary.now (shown_form form) buffer.old (made_calls (length answers.old) calls.now)).form }
-    ensures buffer { buffer.new ≡ (run_by_buffer (known library.now) dictionary.now (shown_form form) buffer.old (made_calls (length answers.old) calls.now)).buffer }
-    ensures answers { map shown_answer answers.new ≡ answers_of (run_by_buffer (known library.now) dictionary.now (shown_form form) buffer.old (made_calls (length answers.old) calls.now)) ++ drop (length (made_calls (length answers.old) calls.now)) (map shown_answer answers.old) }
-    ensures law { Checked (known library.now) dictionary.now → shown_form form ≡ no_form → KeepsTheLaw (known library.now) dictionary.now buffer.old (made_calls (length answers.old) calls.now) }
+    ensures form { shown_form result ≡ (run_by_buffer (L.known library.now) dictionary.now (shown_form form) buffer.old (made_calls (length answers.old) calls.now)).form }
+    ensures buffer { buffer.new ≡ (run_by_buffer (L.known library.now) dictionary.now (shown_form form) buffer.old (made_calls (length answers.old) calls.now)).buffer }
+    ensures answers { map shown_answer answers.new ≡ answers_of (run_by_buffer (L.known library.now) dictionary.now (shown_form form) buffer.old (made_calls (length answers.old) calls.now)) ++ drop (length (made_calls (length answers.old) calls.now)) (map shown_answer answers.old) }
+    ensures law { Checked (L.known library.now) dictionary.now → shown_form form ≡ no_form → KeepsTheLaw (L.known library.now) dictionary.now buffer.old (made_calls (length answers.old) calls.now) }
 {
     seen(buffer);
     let mut held = form;

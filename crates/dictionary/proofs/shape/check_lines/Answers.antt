@@ -7,23 +7,23 @@ use Rattle.dictionary.proofs.shape.check_lines.Goals as goal
 pub loop-at-init : goal.loop-at-init
 loop-at-init c = reached_none c.args.body.now c.args.place
 
-pub returns-in-err-at : goal.returns-in-err-at
-returns-in-err-at c =
-    let p = err_from_is_err_and c.from-residual.result c.from-residual.ensures.1 in
-    p.1 ∙ rw p.2 (sym (reached_refused c.args.body.now c.args.place c.loop-at.at _ c.loop-at.invariant c.loop-at-test.true (sym c.judge-line.ensures ∙ c.in-err-at.was)))
+pub returns-in_err-at : goal.returns-in_err-at
+returns-in_err-at c =
+    let p = err_from_is_err_and c.from_residual.result c.from_residual.ensures.1 in
+    p.1 ∙ rw p.2 (sym (reached_refused c.args.body.now c.args.place c.loop-at.at _ c.loop-at.invariant c.loop-at-test.true (sym c.judge_line.ensures ∙ c.in_err-at.was)))
 
-pub overflow-add-at : goal.overflow-add-at
-overflow-add-at c =
-    let more = reached_more c.args.body.now c.args.place c.loop-at.at c.in-ok-at.field-0 c.loop-at.invariant c.loop-at-test.true (sym c.judge-line.ensures ∙ c.in-ok-at.was) in
+pub overflow_add-at : goal.overflow_add-at
+overflow_add-at c =
+    let more = reached_more c.args.body.now c.args.place c.loop-at.at c.in_ok-at.field-0 c.loop-at.invariant c.loop-at-test.true (sym c.judge_line.ensures ∙ c.in_ok-at.was) in
     let low = more.0.within in
     let room = c.requires in
     Fits-of_lt (omega arith)
 
 pub loop-at-preserved : goal.loop-at-preserved
-loop-at-preserved c = (reached_more c.args.body.now c.args.place c.loop-at.at c.in-ok-at.field-0 c.loop-at.invariant c.loop-at-test.true (sym c.judge-line.ensures ∙ c.in-ok-at.was)).0
+loop-at-preserved c = (reached_more c.args.body.now c.args.place c.loop-at.at c.in_ok-at.field-0 c.loop-at.invariant c.loop-at-test.true (sym c.judge_line.ensures ∙ c.in_ok-at.was)).0
 
 pub loop-at-smaller : goal.loop-at-smaller
-loop-at-smaller c = let more = reached_more c.args.body.now c.args.place c.loop-at.at c.in-ok-at.field-0 c.loop-at.invariant c.loop-at-test.true (sym c.judge-line.ensures ∙ c.in-ok-at.was) in let up = more.1 in omega arith
+loop-at-smaller c = let more = reached_more c.args.body.now c.args.place c.loop-at.at c.in_ok-at.field-0 c.loop-at.invariant c.loop-at-test.true (sym c.judge_line.ensures ∙ c.in_ok-at.was) in let up = more.1 in omega arith
 
 pub returns : goal.returns
-returns c = reached_end c.args.body.now c.args.place c.loop-at.at c.survey-of.result c.end.result c.loop-at.invariant c.loop-at-test.false c.survey-of.ensures c.end.ensures
+returns c = reached_end c.args.body.now c.args.place c.loop-at.at c.survey_of.result c.end.result c.loop-at.invariant c.loop-at-test.false c.survey_of.ensures c.end.ensures

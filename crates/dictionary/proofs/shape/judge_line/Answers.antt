@@ -7,7 +7,7 @@ use Rattle.dictionary.proofs.shape.judge_line.Goals as goal
 
 pub returns : goal.returns
 returns c =
-    judged _ c.args.place _ c.tag.result (shown_line c.in-Some.line) c.survey-of.result c.weigh.result _
-    (c.survey-of.ensures ∙ ap (λ s. gathered_from c.tag.result nothing_gathered c.args.place (there (lines s))) c.part.ensures.value)
+    judged _ c.args.place _ c.tag.result (shown_line c.in-Some.line) c.survey_of.result c.weigh.result _
+    (c.survey_of.ensures ∙ ap (λ s. gathered_from c.tag.result nothing_gathered c.args.place (there (lines s))) c.part.ensures.value)
     c.tag.ensures c.weigh.ensures
     (c.in-Some.ensures ∙ ap first_line c.tail.ensures.value)

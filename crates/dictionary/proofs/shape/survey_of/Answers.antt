@@ -4,10 +4,10 @@ use Rattle.dictionary.specs.Surveys.{gathered_from, gathered_past}
 use Rattle.dictionary.proofs.Walking.{line_within, fold_on, fold_stops, fold_ends}
 use Rattle.dictionary.proofs.shape.survey_of.Goals as goal
 
-pub returns-in-default : goal.returns-in-default
-returns-in-default c =
+pub returns-in_default : goal.returns-in_default
+returns-in_default c =
     fold_stops (gathered_from c.args.sought) (gathered_past c.args.sought) (λ s p l ls. refl)
-    c.args.before.now c.loop-at.at c.args.place c.tail.result.now c.loop-at.above _ c.loop-at-test.true c.tail.ensures.value c.in-default.ensures c.loop-at.invariant.2
+    c.args.before.now c.loop-at.at c.args.place c.tail.result.now c.loop-at.above _ c.loop-at-test.true c.tail.ensures.value c.in_default.ensures c.loop-at.invariant.2
 
 pub loop-at-preserved : goal.loop-at-preserved
 loop-at-preserved c =

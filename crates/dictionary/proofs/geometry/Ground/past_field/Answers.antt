@@ -3,9 +3,9 @@ use mir.Facts.{Fits-of_lt}
 use Rattle.dictionary.proofs.Widths.{width_bounded}
 use Rattle.dictionary.proofs.geometry.Ground.past_field.Goals as goal
 
-pub overflow-add-end : goal.overflow-add-end
-overflow-add-end g c =
+pub overflow_add-end : goal.overflow_add-end
+overflow_add-end g c =
     let k = g.L.TypeLibrary.known c.args.library.now c.args.f.number c.args.f.argument.now in
-    let small = width_bounded k c.width.result c.located.result c.args.place c.args.f.tag c.in-ok-width.width (g.met.L.TypeLibrary.lawful c.args.library.now c.args.f.number c.args.f.argument.now) c.width.ensures c.located.ensures c.in-ok-width.was in
+    let small = width_bounded k c.width.result c.located.result c.args.place c.args.f.tag c.in_ok-width.width (g.met.L.TypeLibrary.lawful c.args.library.now c.args.f.number c.args.f.argument.now) c.width.ensures c.located.ensures c.in_ok-width.was in
     let fits : c.args.f.offset ≤ 65535 = omega arith in
     Fits-of_lt (omega arith)
