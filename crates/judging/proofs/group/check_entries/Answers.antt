@@ -10,12 +10,12 @@ pub returns-then-rest-stride : goal.returns-then-rest-stride
 returns-then-rest-stride g c =
     entries_short c.args.closed (block_at (g.L.TypeLibrary.known c.args.library.now) c.args.version c.args.size c.args.lines.now) c.args.stride c.args.tag c.loop-left.left c.loop-left.at c.loop-left.rest.now _ c.loop-left-test.true (omega arith) c.loop-left.invariant.1
 
-pub returns-in-err-check-fields : goal.returns-in-err-check-fields
-returns-in-err-check-fields g c =
+pub returns-in_err-check_fields : goal.returns-in_err-check_fields
+returns-in_err-check_fields g c =
     let known = g.L.TypeLibrary.known c.args.library.now in
-    let p = err_from_is_err_and c.from-residual.result c.from-residual.ensures.1 in
+    let p = err_from_is_err_and c.from_residual.result c.from_residual.ensures.1 in
     p.1 ∙ rw p.2 (entries_refused c.args.closed (block_at known c.args.version c.args.size c.args.lines.now) c.args.stride c.args.tag c.loop-left.left c.loop-left.at c.loop-left.rest.now _ _ c.loop-left-test.true (omega arith)
-    (ap (λ n. fields_verdict c.args.closed c.loop-left.at 0 (slots_from known c.args.version c.args.lines.now) n c.loop-left.rest.now) (sym c.length-at-own.ensures) ∙ sym c.check-fields.ensures ∙ c.in-err-check-fields.was)
+    (ap (λ n. fields_verdict c.args.closed c.loop-left.at 0 (slots_from known c.args.version c.args.lines.now) n c.loop-left.rest.now) (sym c.length_at-own.ensures) ∙ sym c.check_fields.ensures ∙ c.in_err-check_fields.was)
     c.loop-left.invariant.1)
 
 pub loop-left-preserved : goal.loop-left-preserved
@@ -28,6 +28,6 @@ loop-left-preserved g c =
       omega (arith, long),
       ap (entries_verdict c.args.closed b c.args.stride c.args.tag (c.loop-left.left - 1) (c.loop-left.at + c.args.stride)) rest
           ∙ entries_more c.args.closed b c.args.stride c.args.tag c.loop-left.left c.loop-left.at c.loop-left.rest.now _ _ c.loop-left-test.true (omega arith)
-          (ap (λ n. fields_verdict c.args.closed c.loop-left.at 0 (slots_from known c.args.version c.args.lines.now) n c.loop-left.rest.now) (sym c.length-at-own.ensures) ∙ sym c.check-fields.ensures ∙ c.in-ok-check-fields.was)
+          (ap (λ n. fields_verdict c.args.closed c.loop-left.at 0 (slots_from known c.args.version c.args.lines.now) n c.loop-left.rest.now) (sym c.length_at-own.ensures) ∙ sym c.check_fields.ensures ∙ c.in_ok-check_fields.was)
           c.loop-left.invariant.1,
     )

@@ -13,22 +13,22 @@ loop-group-init g c =
       left_start _ _ (ap (λ q. groups_step c.args.closed c.args.newer (groups_seen known c.args.version c.args.lines.now) q c.args.bytes.now) p),
     )
 
-pub returns-in-err-n : goal.returns-in-err-n
-returns-in-err-n g c =
+pub returns-in_err-n : goal.returns-in_err-n
+returns-in_err-n g c =
     let known = g.L.TypeLibrary.known c.args.library.now in
-    let p = err_from_is_err_and c.from-residual.result c.from-residual.ensures.1 in
-    let value = p.1 ∙ rw p.2 (groups_refused known c.args.version c.args.closed c.args.newer c.loop-group.left.now c.in-Some.group.rest.now c.in-Some.group.tag c.in-Some.group.size c.args.place c.loop-group.passed c.loop-group.rest.now c.check-group.result _ _ c.in-Some.ensures.0 c.check-group.ensures.value c.in-err-n.was c.loop-group.invariant.1) in
+    let p = err_from_is_err_and c.from_residual.result c.from_residual.ensures.1 in
+    let value = p.1 ∙ rw p.2 (groups_refused known c.args.version c.args.closed c.args.newer c.loop-group.left.now c.in-Some.group.rest.now c.in-Some.group.tag c.in-Some.group.size c.args.place c.loop-group.passed c.loop-group.rest.now c.check_group.result _ _ c.in-Some.ensures.0 c.check_group.ensures.value c.in_err-n.was c.loop-group.invariant.1) in
     record { value = value; within = subst (λ x. Within x (length c.args.bytes.now)) (sym p.1) tt }
 
 pub loop-group-preserved : goal.loop-group-preserved
 loop-group-preserved g c =
     let known = g.L.TypeLibrary.known c.args.library.now in
-    let there = group_there known c.args.version c.args.closed c.args.newer c.in-Some.group.tag c.in-Some.group.size c.in-Some.group.rest.now (c.args.place + c.loop-group.passed) c.in-ok-n.n c.loop-group.rest.now (sym c.check-group.ensures.value ∙ c.in-ok-n.was) in
+    let there = group_there known c.args.version c.args.closed c.args.newer c.in-Some.group.tag c.in-Some.group.size c.in-Some.group.rest.now (c.args.place + c.loop-group.passed) c.in_ok-n.n c.loop-group.rest.now (sym c.check_group.ensures.value ∙ c.in_ok-n.was) in
     let fits = there.1 in
-    let long = ap length c.beyond-rest.ensures ∙ length-drop c.in-ok-n.n c.loop-group.rest.now in
+    let long = ap length c.beyond-rest.ensures ∙ length-drop c.in_ok-n.n c.loop-group.rest.now in
     let stays = c.loop-group.invariant.0 in (
       omega (arith, long),
-      groups_more known c.args.version c.args.closed c.args.newer c.loop-group.left.now c.in-Some.group.rest.now c.in-Some.group.tag c.in-Some.group.size c.in-ok-n.n c.args.place c.loop-group.passed c.loop-group.rest.now c.beyond-rest.result.now c.check-group.result _ c.in-Some.ensures.0 c.check-group.ensures.value c.in-ok-n.was c.beyond-rest.ensures c.loop-group.invariant.1,
+      groups_more known c.args.version c.args.closed c.args.newer c.loop-group.left.now c.in-Some.group.rest.now c.in-Some.group.tag c.in-Some.group.size c.in_ok-n.n c.args.place c.loop-group.passed c.loop-group.rest.now c.beyond-rest.result.now c.check_group.result _ c.in-Some.ensures.0 c.check_group.ensures.value c.in_ok-n.was c.beyond-rest.ensures c.loop-group.invariant.1,
     )
 
 pub returns : goal.returns
@@ -36,14 +36,14 @@ returns g c =
     let known = g.L.TypeLibrary.known c.args.library.now in
     let stays = c.loop-group.invariant.0 in
     record {
-      value = groups_end known c.args.version c.args.closed c.args.newer c.loop-group.left.now c.args.place c.loop-group.passed c.loop-group.rest.now _ c.in-default.ensures c.loop-group.invariant.1;
+      value = groups_end known c.args.version c.args.closed c.args.newer c.loop-group.left.now c.args.place c.loop-group.passed c.loop-group.rest.now _ c.in_default.ensures c.loop-group.invariant.1;
       within = omega arith;
     }
 
-pub overflow-add-passed : goal.overflow-add-passed
-overflow-add-passed g c =
+pub overflow_add-passed : goal.overflow_add-passed
+overflow_add-passed g c =
     let known = g.L.TypeLibrary.known c.args.library.now in
-    let there = group_there known c.args.version c.args.closed c.args.newer c.in-Some.group.tag c.in-Some.group.size c.in-Some.group.rest.now (c.args.place + c.loop-group.passed) c.in-ok-n.n c.loop-group.rest.now (sym c.check-group.ensures.value ∙ c.in-ok-n.was) in
+    let there = group_there known c.args.version c.args.closed c.args.newer c.in-Some.group.tag c.in-Some.group.size c.in-Some.group.rest.now (c.args.place + c.loop-group.passed) c.in_ok-n.n c.loop-group.rest.now (sym c.check_group.ensures.value ∙ c.in_ok-n.was) in
     let fits = there.1 in
     let stays = c.loop-group.invariant.0 in
     let room = c.requires in

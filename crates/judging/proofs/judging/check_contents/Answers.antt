@@ -11,8 +11,8 @@ use Rattle.judging.specs.Steps.{slots_from, behind_root}
 use Rattle.judging.proofs.PutTogether.{opened}
 use Rattle.judging.proofs.judging.check_contents.Goals as goal
 
-pub check-behind-root-requires : goal.check-behind-root-requires
-check-behind-root-requires g c =
+pub check_behind_root-requires : goal.check_behind_root-requires
+check_behind_root-requires g c =
     let long = ap length c.beyond.ensures ∙ length-drop c.args.given c.args.rest.now in
     let small = c.requires.small in
     let room = c.requires.room in
@@ -24,10 +24,10 @@ returns g c =
     let body = c.args.section.body.now in
     let own = length_at c.args.version c.args.section.size (fields_of (there (lines body))) in
     let fits : length_fits c.args.newer c.args.given own ≡ true =
-    ap (length_fits c.args.newer c.args.given) (sym c.length-at-own.ensures) ∙ sym c.is-length.ensures ∙ search rules in
+    ap (length_fits c.args.newer c.args.given) (sym c.length_at-own.ensures) ∙ sym c.is_length.ensures ∙ search rules in
     let long : leb c.args.given (length c.args.rest.now) ≡ true = le-leb _ _ (omega arith) in
-    c.check-behind-root.ensures
+    c.check_behind_root.ensures
     ∙ ap (behind_root known c.args.closed c.args.newer c.args.version body (12 + c.args.given)) c.beyond.ensures
     ∙ sym (opened (length_fits c.args.newer c.args.given own) (leb c.args.given (length c.args.rest.now)) (refusal reason.BlockLength 4 0) (refusal reason.PastEnd 12 0)
     (fields_verdict c.args.closed 12 0 (slots_from known c.args.version body) own c.args.rest.now) _ _ fits long
-    (ap (λ n. fields_verdict c.args.closed 12 0 (slots_from known c.args.version body) n c.args.rest.now) (sym c.length-at-own.ensures) ∙ sym c.check-fields.ensures ∙ c.in-ok-check-fields.was))
+    (ap (λ n. fields_verdict c.args.closed 12 0 (slots_from known c.args.version body) n c.args.rest.now) (sym c.length_at-own.ensures) ∙ sym c.check_fields.ensures ∙ c.in_ok-check_fields.was))

@@ -7,7 +7,7 @@ pub returns : goal.returns
 returns g c =
     let s = c.args.dictionary.now in
     let bs = c.args.bytes.now in
-    found_same (g.L.TypeLibrary.known c.args.library.now) c.args.closed (sections_of s) c.check-found.result
-    c.number-at.result (version_of s) c.stated-at-version.result (stated_version bs) c.stated-at-2.result (stated_root bs) c.stated_at.result (stated_template bs)
+    found_same (g.L.TypeLibrary.known c.args.library.now) c.args.closed (sections_of s) c.check_found.result
+    c.number_at.result (version_of s) c.stated_at-version.result (stated_version bs) c.stated_at-2.result (stated_root bs) c.stated_at.result (stated_template bs)
     c.beyond.result.now _ _
-    c.number-at.ensures c.stated-at-version.ensures c.stated-at-2.ensures c.stated_at.ensures c.beyond.ensures c.in-Some.ensures.value c.check-found.ensures
+    c.number_at.ensures c.stated_at-version.ensures c.stated_at-2.ensures c.stated_at.ensures c.beyond.ensures c.in-Some.ensures.value c.check_found.ensures

@@ -4,23 +4,23 @@ use Rattle.std.proofs.lemmas.Result.{err_from_is_err_and}
 use Rattle.judging.proofs.Parts.{part_there, parts_more, parts_refused, parts_end}
 use Rattle.judging.proofs.part.check_parts.Goals as goal
 
-pub returns-in-err-n : goal.returns-in-err-n
-returns-in-err-n c =
-    let p = err_from_is_err_and c.from-residual.result c.from-residual.ensures.1 in
-    p.1 ∙ rw p.2 (parts_refused c.args.version c.args.newer c.loop-part.left.now c.in-Some.part.rest.now c.in-Some.part.tag c.in-Some.part.since c.in-Some.part.longest c.loop-part.at c.loop-part.rest.now c.check-part.result _ _ c.in-Some.ensures.0 c.check-part.ensures c.in-err-n.was c.loop-part.invariant.1)
+pub returns-in_err-n : goal.returns-in_err-n
+returns-in_err-n c =
+    let p = err_from_is_err_and c.from_residual.result c.from_residual.ensures.1 in
+    p.1 ∙ rw p.2 (parts_refused c.args.version c.args.newer c.loop-part.left.now c.in-Some.part.rest.now c.in-Some.part.tag c.in-Some.part.since c.in-Some.part.longest c.loop-part.at c.loop-part.rest.now c.check_part.result _ _ c.in-Some.ensures.0 c.check_part.ensures c.in_err-n.was c.loop-part.invariant.1)
 
-pub overflow-add-at : goal.overflow-add-at
-overflow-add-at c =
-    let fits = part_there c.in-Some.part.tag c.in-Some.part.longest c.loop-part.at c.in-ok-n.n c.loop-part.rest.now (sym c.check-part.ensures ∙ c.in-ok-n.was) in
+pub overflow_add-at : goal.overflow_add-at
+overflow_add-at c =
+    let fits = part_there c.in-Some.part.tag c.in-Some.part.longest c.loop-part.at c.in_ok-n.n c.loop-part.rest.now (sym c.check_part.ensures ∙ c.in_ok-n.was) in
     let stays = c.loop-part.invariant.0 in
     let room = c.requires in
     Fits-of_lt (omega arith)
 
 pub loop-part-preserved : goal.loop-part-preserved
 loop-part-preserved c =
-    let fits = part_there c.in-Some.part.tag c.in-Some.part.longest c.loop-part.at c.in-ok-n.n c.loop-part.rest.now (sym c.check-part.ensures ∙ c.in-ok-n.was) in
-    let long = ap length c.beyond-rest.ensures ∙ length-drop c.in-ok-n.n c.loop-part.rest.now in
+    let fits = part_there c.in-Some.part.tag c.in-Some.part.longest c.loop-part.at c.in_ok-n.n c.loop-part.rest.now (sym c.check_part.ensures ∙ c.in_ok-n.was) in
+    let long = ap length c.beyond-rest.ensures ∙ length-drop c.in_ok-n.n c.loop-part.rest.now in
     let stays = c.loop-part.invariant.0 in (
       omega (arith, long),
-      parts_more c.args.version c.args.newer c.loop-part.left.now c.in-Some.part.rest.now c.in-Some.part.tag c.in-Some.part.since c.in-Some.part.longest c.loop-part.at c.in-ok-n.n c.loop-part.rest.now c.beyond-rest.result.now c.check-part.result _ c.in-Some.ensures.0 c.check-part.ensures c.in-ok-n.was c.beyond-rest.ensures c.loop-part.invariant.1,
+      parts_more c.args.version c.args.newer c.loop-part.left.now c.in-Some.part.rest.now c.in-Some.part.tag c.in-Some.part.since c.in-Some.part.longest c.loop-part.at c.in_ok-n.n c.loop-part.rest.now c.beyond-rest.result.now c.check_part.result _ c.in-Some.ensures.0 c.check_part.ensures c.in_ok-n.was c.beyond-rest.ensures c.loop-part.invariant.1,
     )

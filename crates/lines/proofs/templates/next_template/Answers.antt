@@ -4,8 +4,8 @@ use Rattle.dictionary.specs.Shown.{shown_section}
 use Rattle.lines.proofs.Walking.{no_section, section_fits, one_section}
 use Rattle.lines.proofs.templates.next_template.Goals as goal
 
-pub returns-in-default : goal.returns-in-default
-returns-in-default c = ap (map template_of) (no_section c.args.templates.now c.in-default.ensures)
+pub returns-in_default : goal.returns-in_default
+returns-in_default c = ap (map template_of) (no_section c.args.templates.now c.in_default.ensures)
 
 pub tail-requires : goal.tail-requires
 tail-requires c = section_fits c.args.templates.now (shown_section c.in-Some.section) c.bytes.result c.in-Some.ensures c.bytes.ensures
