@@ -5,8 +5,8 @@ use Rattle.lines.specs.Walks.{fields_in}
 use Rattle.blanks.proofs.Blocks.{field_room, field_more}
 use Rattle.blanks.proofs.block.put_blank_block.Goals as goal
 
-pub put-blank-field-at-requires : goal.put-blank-field-at-requires
-put-blank-field-at-requires g c =
+pub put_blank_field-at-requires : goal.put_blank_field-at-requires
+put_blank_field-at-requires g c =
     let known = g.L.TypeLibrary.known c.args.library.now in
     let lawful = g.met.L.TypeLibrary.lawful c.args.library.now in
     let room = c.requires.room in
@@ -20,6 +20,6 @@ loop-next-preserved g c =
     let lawful = g.met.L.TypeLibrary.lawful c.args.library.now in
     let room = c.requires.room in
     let kept = c.loop-next.invariant.1 in
-    let r = field_more known lawful c.args.base c.loop-next.at c.put-blank-field-at.result (shown_field c.in-Some.next.field) (seen_fields c.args.u (fields_in c.in-Some.next.rest.now)) _ c.args.size c.loop-next.buffer c.put-blank-field-at.new.buffer _
-    c.in-Some.ensures.0 c.loop-next.invariant.0 (omega (arith, room, kept)) c.put-blank-field-at.ensures.value c.put-blank-field-at.ensures.end c.loop-next.invariant.2 in
-    (r.0, c.put-blank-field-at.ensures.len ∙ kept, r.1)
+    let r = field_more known lawful c.args.base c.loop-next.at c.put_blank_field-at.result (shown_field c.in-Some.next.field) (seen_fields c.args.u (fields_in c.in-Some.next.rest.now)) _ c.args.size c.loop-next.buffer c.put_blank_field-at.new.buffer _
+    c.in-Some.ensures.0 c.loop-next.invariant.0 (omega (arith, room, kept)) c.put_blank_field-at.ensures.value c.put_blank_field-at.ensures.end c.loop-next.invariant.2 in
+    (r.0, c.put_blank_field-at.ensures.len ∙ kept, r.1)

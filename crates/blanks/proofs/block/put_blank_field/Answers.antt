@@ -9,9 +9,9 @@ put-requires g c =
     let known = g.L.TypeLibrary.known c.args.library.now in
     let lawful = g.met.L.TypeLibrary.lawful c.args.library.now in
     let f = shown_field c.args.f in
-    let told = ap Ok c.as-bytes-bytes.ensures.value ∙ c.in-Ok.ensures in
+    let told = ap Ok c.as_bytes-bytes.ensures.value ∙ c.in-Ok.ensures in
     let long = (answered (kind_of known f) _ (blank_at known lawful f c.requires.named) told).1 in
-    let kept = c.put-zeros.ensures.len in
+    let kept = c.put_zeros.ensures.len in
     let room = c.requires.room in
     omega (arith, long, kept, room)
 
@@ -20,10 +20,10 @@ returns-in-Ok g c =
     let known = g.L.TypeLibrary.known c.args.library.now in
     let lawful = g.met.L.TypeLibrary.lawful c.args.library.now in
     let f = shown_field c.args.f in
-    let told = ap Ok c.as-bytes-bytes.ensures.value ∙ c.in-Ok.ensures in
+    let told = ap Ok c.as_bytes-bytes.ensures.value ∙ c.in-Ok.ensures in
     let long = (answered (kind_of known f) _ (blank_at known lawful f c.requires.named) told).1 in
     record {
-      value = field_put known lawful c.args.base c.args.at f _ c.args.buffer.now c.put-zeros.new.buffer c.put.new.buffer c.requires.order c.requires.named told c.requires.room c.put-zeros.ensures.value c.put.ensures.value;
+      value = field_put known lawful c.args.base c.args.at f _ c.args.buffer.now c.put_zeros.new.buffer c.put.new.buffer c.requires.order c.requires.named told c.requires.room c.put_zeros.ensures.value c.put.ensures.value;
       end = ap (λ n. f.offset + n) long;
-      len = c.put.ensures.len ∙ c.put-zeros.ensures.len;
+      len = c.put.ensures.len ∙ c.put_zeros.ensures.len;
     }

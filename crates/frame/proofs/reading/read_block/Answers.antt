@@ -6,18 +6,18 @@ use Rattle.lines.specs.Walks.{fields_in}
 use Rattle.frame.proofs.Readings.{field_read}
 use Rattle.frame.proofs.reading.read_block.Goals as goal
 
-pub returns-in-default : goal.returns-in-default
-returns-in-default g c =
+pub returns-in_default : goal.returns-in_default
+returns-in_default g c =
     let known = g.L.TypeLibrary.known c.args.library.now in
     let reads = field_reading known c.args.version c.args.bytes.now c.args.base in
-    c.not-found.ensures
-    ∙ ap (λ (o : Option Field). of_field (option_map reads o) c.args.tag) c.in-default.ensures
+    c.not_found.ensures
+    ∙ ap (λ (o : Option Field). of_field (option_map reads o) c.args.tag) c.in_default.ensures
     ∙ ap (λ o. of_field o c.args.tag) (field_read known c.args.version c.args.bytes.now c.args.base (fields_in c.args.lines.now) c.args.tag)
 
 pub returns : goal.returns
 returns g c =
     let known = g.L.TypeLibrary.known c.args.library.now in
     let reads = field_reading known c.args.version c.args.bytes.now c.args.base in
-    c.read-field.ensures
+    c.read_field.ensures
     ∙ ap (λ (o : Option Field). of_field (option_map reads o) c.args.tag) c.in-Some.ensures
     ∙ ap (λ o. of_field o c.args.tag) (field_read known c.args.version c.args.bytes.now c.args.base (fields_in c.args.lines.now) c.args.tag)

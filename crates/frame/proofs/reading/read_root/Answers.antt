@@ -8,8 +8,8 @@ use Rattle.frame.specs.Readings.{behind_groups, part_with}
 use Rattle.frame.proofs.Readings.{field_read, groups_behind, part_read}
 use Rattle.frame.proofs.reading.read_root.Goals as goal
 
-pub returns-in-default : goal.returns-in-default
-returns-in-default g c =
+pub returns-in_default : goal.returns-in_default
+returns-in_default g c =
     let known = g.L.TypeLibrary.known c.args.library.now in
     let u = c.args.version in
     let tag = c.args.tag in
@@ -21,9 +21,9 @@ returns-in-default g c =
     ∙ ap (behind_groups groups) (c.beyond-behind.ensures ∙ ap (λ n. drop (12 + n) bs) c.stated_at.ensures)
     ∙ groups_behind bs (12 + stated_root bs) groups in
     let x = part_at u bs (groups_end bs (12 + stated_root bs) groups) parts tag in
-    c.read-part.ensures
+    c.read_part.ensures
     ∙ ap (λ o. of_data o tag) (ap (part_with u tag parts) behind ∙ part_read u bs (groups_end bs (12 + stated_root bs) groups) parts tag)
-    ∙ ap (λ (o : Option Field). of_root (option_map (field_reading known u bs 12) o) x tag) c.in-default.ensures
+    ∙ ap (λ (o : Option Field). of_root (option_map (field_reading known u bs 12) o) x tag) c.in_default.ensures
     ∙ ap (λ o. of_root o x tag) (field_read known u bs 12 (fields_in c.args.lines.now) tag)
 
 pub returns : goal.returns
@@ -33,6 +33,6 @@ returns g c =
     let tag = c.args.tag in
     let bs = c.args.bytes.now in
     let x = part_at u bs (groups_end bs (12 + stated_root bs) (groups_in c.args.lines.now)) (parts_in c.args.lines.now) tag in
-    c.read-field.ensures
+    c.read_field.ensures
     ∙ ap (λ (o : Option Field). of_root (option_map (field_reading known u bs 12) o) x tag) c.in-Some.ensures
     ∙ ap (λ o. of_root o x tag) (field_read known u bs 12 (fields_in c.args.lines.now) tag)

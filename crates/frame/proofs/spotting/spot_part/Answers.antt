@@ -11,10 +11,10 @@ loop-next-preserved g c =
     let rest = c.in-Some.next.rest.now in
     let short : length bs < 2 ^ 63 = search rules in
     let step = c.in-Some.ensures in
-    let q = c.part-end-at.ensures in
+    let q = c.part_end-at.ensures in
     let takes = step.1 in
     let within = c.loop-next.invariant.2 in (
-      part_spot_on c.args.version bs at c.part-end-at.result (parts_in left) (parts_in rest) (data_at c.in-Some.next) c.args.tag _ q.value c.if-next-tag.false step.0 c.loop-next.invariant.0,
-      part_near at c.part-end-at.result (length bs) (length left) (length rest) (length c.args.lines.now) short q.most q.behind takes within c.loop-next.invariant.1,
+      part_spot_on c.args.version bs at c.part_end-at.result (parts_in left) (parts_in rest) (data_at c.in-Some.next) c.args.tag _ q.value c.if-next-tag.false step.0 c.loop-next.invariant.0,
+      part_near at c.part_end-at.result (length bs) (length left) (length rest) (length c.args.lines.now) short q.most q.behind takes within c.loop-next.invariant.1,
       omega arith,
     )

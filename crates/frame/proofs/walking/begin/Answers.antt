@@ -10,36 +10,36 @@ use Rattle.frame.proofs.Begun.{items_found, items_passed, items_refused}
 use Rattle.frame.proofs.Onward.{starts, starts_empty}
 use Rattle.frame.proofs.walking.begin.Goals as goal
 
-pub check-geometry-requires : goal.check-geometry-requires
-check-geometry-requires g c =
-    let w = within c.stated-at-number.result c.stated-at-version.result c.args.dictionary.now c.seen.ensures (placed_section c.in-Some.found) c.in-Some.ensures.value in
+pub check_geometry-requires : goal.check_geometry-requires
+check_geometry-requires g c =
+    let w = within c.stated_at-number.result c.stated_at-version.result c.args.dictionary.now c.seen.ensures (placed_section c.in-Some.found) c.in-Some.ensures.value in
     let fits = w.0 in
     omega arith
 
-pub returns-in-err-check-geometry : goal.returns-in-err-check-geometry
+pub returns-in-err-check-geometry : goal.returns-in-err-check_geometry
 returns-in-err-check-geometry g c =
     let known = g.L.TypeLibrary.known c.args.library.now in
-    let p = err_from_is_err_and c.from-residual.result c.from-residual.ensures.1 in
-    let told = items_refused known c.args.dictionary.now c.args.bytes.now c.stated-at-number.result c.stated-at-version.result c.stated-at-number.ensures c.stated-at-version.ensures
-    (placed_section c.in-Some.found) c.number-at.result c.check-geometry.result _ c.in-Some.ensures.value c.number-at.ensures c.check-geometry.ensures c.in-err-check-geometry.was in
+    let p = err_from_is_err_and c.from_residual.result c.from_residual.ensures.1 in
+    let told = items_refused known c.args.dictionary.now c.args.bytes.now c.stated_at-number.result c.stated_at-version.result c.stated_at-number.ensures c.stated_at-version.ensures
+    (placed_section c.in-Some.found) c.number_at.result c.check_geometry.result _ c.in-Some.ensures.value c.number_at.ensures c.check_geometry.ensures c.in-err-check_geometry.was in
     record {
       items = ap (all_remaining known) p.1 ∙ rw p.2 (sym told);
       holds = rw p.1 tt;
     }
 
-pub returns-in-ok-check-geometry : goal.returns-in-ok-check-geometry
+pub returns-in-ok-check-geometry : goal.returns-in_ok-check_geometry
 returns-in-ok-check-geometry g c =
     let known = g.L.TypeLibrary.known c.args.library.now in
     let bs = c.args.bytes.now in
     let x = placed_section c.in-Some.found in
-    let w = within c.stated-at-number.result c.stated-at-version.result c.args.dictionary.now c.seen.ensures x c.in-Some.ensures.value in
-    let small : c.stated-at-root.result ≤ 65535 = search rules in
-    let told = items_passed known c.args.dictionary.now bs c.stated-at-number.result c.stated-at-version.result c.stated-at-number.ensures c.stated-at-version.ensures
-    x c.number-at.result c.check-geometry.result _ c.in-Some.ensures.value c.number-at.ensures c.check-geometry.ensures c.in-ok-check-geometry.was in
+    let w = within c.stated_at-number.result c.stated_at-version.result c.args.dictionary.now c.seen.ensures x c.in-Some.ensures.value in
+    let small : c.stated_at-root.result ≤ 65535 = search rules in
+    let told = items_passed known c.args.dictionary.now bs c.stated_at-number.result c.stated_at-version.result c.stated_at-number.ensures c.stated_at-version.ensures
+    x c.number_at.result c.check_geometry.result _ c.in-Some.ensures.value c.number_at.ensures c.check_geometry.ensures c.in_ok-check_geometry.was in
     record {
       items =
           ap (λ (is : List Item). Ok is)
-          (ap (items_from known bs) c.start.ensures ∙ starts known bs c.stated-at-version.result (12 + c.stated-at-root.result) (shown_section c.in-Some.found.section) w.1 (omega arith) (ap (λ n. 12 + n) c.stated-at-root.ensures))
+          (ap (items_from known bs) c.start.ensures ∙ starts known bs c.stated_at-version.result (12 + c.stated_at-root.result) (shown_section c.in-Some.found.section) w.1 (omega arith) (ap (λ n. 12 + n) c.stated_at-root.ensures))
           ∙ sym told;
       holds = (refl, refl);
     }
@@ -48,12 +48,12 @@ pub returns-in-None : goal.returns-in-None
 returns-in-None g c =
     let known = g.L.TypeLibrary.known c.args.library.now in
     let bs = c.args.bytes.now in
-    let small : c.stated-at-root.result ≤ 65535 = search rules in
-    let told = items_found known c.args.dictionary.now bs c.stated-at-number.result c.stated-at-version.result c.stated-at-number.ensures c.stated-at-version.ensures None c.in-None.ensures.value in
+    let small : c.stated_at-root.result ≤ 65535 = search rules in
+    let told = items_found known c.args.dictionary.now bs c.stated_at-number.result c.stated_at-version.result c.stated_at-number.ensures c.stated_at-version.ensures None c.in-None.ensures.value in
     record {
       items =
           ap (λ (is : List Item). Ok is)
-          (ap (items_from known bs) c.start-in-None.ensures ∙ starts_empty known bs c.stated-at-version.result (12 + c.stated-at-root.result) c.upto.result.now c.upto.ensures (omega arith))
+          (ap (items_from known bs) c.start-in-None.ensures ∙ starts_empty known bs c.stated_at-version.result (12 + c.stated_at-root.result) c.upto.result.now c.upto.ensures (omega arith))
           ∙ sym told;
       holds = (refl, refl);
     }

@@ -3,8 +3,8 @@ use Rattle.frame.specs.Spots.{shown_spot}
 use Rattle.frame.proofs.Onward.{near, stepped, field_on}
 use Rattle.frame.proofs.walking.field_step.Goals as goal
 
-pub field-item-requires : goal.field-item-requires
-field-item-requires g c = (near (shown_spot c.args.at) c.requires.room).base
+pub field_item-requires : goal.field_item-requires
+field_item-requires g c = (near (shown_spot c.args.at) c.requires.room).base
 
 pub returns : goal.returns
 returns g c =

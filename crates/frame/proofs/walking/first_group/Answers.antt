@@ -25,8 +25,8 @@ loop-line-preserved c =
     let shorter = h.1 in
     let near = c.loop-line.invariant.0 in (
       omega arith,
-      sym (not_a_group c.in-Some.line (there (lines c.beyond-behind.result.now)) c.in-default-line.not-Group) ∙ sym (ap groups_of h.0) ∙ c.loop-line.invariant.1,
+      sym (not_a_group c.in-Some.line (there (lines c.beyond-behind.result.now)) c.in_default-line.not-Group) ∙ sym (ap groups_of h.0) ∙ c.loop-line.invariant.1,
     )
 
 pub returns : goal.returns
-returns c = record { value = sym (ap groups_of (no_line c.loop-line.left.now c.in-default.ensures)) ∙ c.loop-line.invariant.1; behind = tt }
+returns c = record { value = sym (ap groups_of (no_line c.loop-line.left.now c.in_default.ensures)) ∙ c.loop-line.invariant.1; behind = tt }

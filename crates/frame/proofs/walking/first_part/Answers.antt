@@ -45,9 +45,9 @@ loop-line-preserved c =
     let shorter = h.1 in
     let near = c.loop-line.invariant.0 in (
       omega arith,
-      ap (seen_parts c.args.version) (sym (not_a_part c.in-Some.line (there (lines c.beyond-behind.result.now)) c.in-default-line.not-Data) ∙ sym (ap parts_of h.0))
+      ap (seen_parts c.args.version) (sym (not_a_part c.in-Some.line (there (lines c.beyond-behind.result.now)) c.in_default-line.not-Data) ∙ sym (ap parts_of h.0))
           ∙ c.loop-line.invariant.1,
     )
 
 pub returns : goal.returns
-returns c = record { value = sym (ap (λ ls. seen_parts c.args.version (parts_of ls)) (no_line c.loop-line.left.now c.in-default.ensures)) ∙ c.loop-line.invariant.1; behind = tt }
+returns c = record { value = sym (ap (λ ls. seen_parts c.args.version (parts_of ls)) (no_line c.loop-line.left.now c.in_default.ensures)) ∙ c.loop-line.invariant.1; behind = tt }

@@ -9,15 +9,15 @@ returns-in-Some g c =
     let bs = c.args.bytes.now in
     let a = shown_spot c.args.at in
     let more : 0 < a.entries = omega arith in
-    as_from known bs a (shown_spot c.next_entry.result) c.field-step.result
+    as_from known bs a (shown_spot c.next_entry.result) c.field_step.result
     (entry_on known bs a c.requires.room c.requires.behind more ∙ ap (items_from known bs) (sym c.next_entry.ensures))
-    c.field-step.ensures
+    c.field_step.ensures
 
 pub returns-in-None : goal.returns-in-None
 returns-in-None g c =
     let known = g.L.TypeLibrary.known c.args.library.now in
     let bs = c.args.bytes.now in
     let a = shown_spot c.args.at in
-    as_from known bs a (shown_spot c.without_entries.result) c.step-in-groups-in-None.result
+    as_from known bs a (shown_spot c.without_entries.result) c.step_in_groups-in-None.result
     (entries_on known bs a c.requires.room c.in-None.ensures ∙ ap (items_from known bs) (sym c.without_entries.ensures))
-    c.step-in-groups-in-None.ensures
+    c.step_in_groups-in-None.ensures

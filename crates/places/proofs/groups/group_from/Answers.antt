@@ -12,11 +12,11 @@ returns c =
     let p = c.args.place in
     let fields = seen_fields c.args.u (fields_in c.args.next.rest.now) in
     let few : c.entry_count.result < 256 = search rules in
-    let short : c.length-at.result < 65536 = search rules in
+    let short : c.length_at.result < 65536 = search rules in
     let is : c.entry_count.result ≡ entry_count (drop p bs) = c.entry_count.ensures ∙ ap entry_count c.beyond.ensures in
     let seen : ℕ → ℕ → PlacedGroup = λ size count. record { place = p; group = record { tag = c.args.next.tag; block = record { size = size; fields = fields } }; count = count } in
     record {
-      value = ap₂ seen c.length-at.ensures is;
+      value = ap₂ seen c.length_at.ensures is;
       few = omega arith;
       short = omega arith;
       here = search rules;

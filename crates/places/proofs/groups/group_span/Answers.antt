@@ -5,8 +5,8 @@ use Rattle.places.proofs.groups.group_span.Goals as goal
 
 pub returns : goal.returns
 returns c =
-    let g = c.group-from-group.result in
-    let is = c.group-from-group.ensures in
+    let g = c.group_from-group.result in
+    let is = c.group_from-group.ensures in
     let most = mul-le g.count g.size 255 65535 is.few is.short in
     record {
       value = ap (λ (x : PlacedGroup). 3 + x.count * x.group.block.size) is.value;

@@ -8,8 +8,8 @@ pub returns : goal.returns
 returns c =
     let bs = c.args.bytes.now in
     let p = c.args.place in
-    let most : c.le-read.result ≤ 255 = search rules in
-    let is : c.le-read.result ≡ content_length 1 (drop p bs) = c.le-read.ensures.value ∙ ap le_value c.upto.ensures ∙ ap (content_length 1) c.beyond.ensures in
+    let most : c.le_read.result ≤ 255 = search rules in
+    let is : c.le_read.result ≡ content_length 1 (drop p bs) = c.le_read.ensures.value ∙ ap le_value c.upto.ensures ∙ ap (content_length 1) c.beyond.ensures in
     record {
       value = is;
       most = most;
