@@ -5,20 +5,20 @@ use Rattle.blanks.proofs.Blocks.{block_long}
 use Rattle.filling.proofs.Blanks.{put_in_room, put_nowhere}
 use Rattle.filling.proofs.adding.put_blank_in.Goals as goal
 
-pub returns-then-is-within : goal.returns-then-is-within
-returns-then-is-within g c =
+pub returns-then-is_within : goal.returns-then-is_within
+returns-then-is_within g c =
     let known = g.L.TypeLibrary.known c.args.library.now in
     let b = block_in c.args.version c.args.size c.args.lines.now in
     record {
-      value = put_in_room c.args.p c.args.size (blank_block (block_view known b)) c.args.buffer.now c.put-blank-block.new.buffer (block_long known (g.met.L.TypeLibrary.lawful c.args.library.now) b c.requires) (sym c.if-is-within.ensures) c.put-blank-block.ensures.value;
-      long = c.put-blank-block.ensures.len;
+      value = put_in_room c.args.p c.args.size (blank_block (block_view known b)) c.args.buffer.now c.put_blank_block.new.buffer (block_long known (g.met.L.TypeLibrary.lawful c.args.library.now) b c.requires) (sym c.if-is_within.ensures) c.put_blank_block.ensures.value;
+      long = c.put_blank_block.ensures.len;
     }
 
-pub returns-else-is-within : goal.returns-else-is-within
-returns-else-is-within g c =
+pub returns-else-is_within : goal.returns-else-is_within
+returns-else-is_within g c =
     let known = g.L.TypeLibrary.known c.args.library.now in
     let b = block_in c.args.version c.args.size c.args.lines.now in
     record {
-      value = put_nowhere c.args.p c.args.size (blank_block (block_view known b)) c.args.buffer.now (block_long known (g.met.L.TypeLibrary.lawful c.args.library.now) b c.requires) (sym c.if-is-within.ensures);
+      value = put_nowhere c.args.p c.args.size (blank_block (block_view known b)) c.args.buffer.now (block_long known (g.met.L.TypeLibrary.lawful c.args.library.now) b c.requires) (sym c.if-is_within.ensures);
       long = refl;
     }

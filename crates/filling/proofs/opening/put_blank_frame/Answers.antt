@@ -4,8 +4,8 @@ use Rattle.steps.proofs.Opening.{geometry_needs}
 use Rattle.steps.proofs.Fitting.{geometry_fits}
 use Rattle.filling.proofs.opening.put_blank_frame.Goals as goal
 
-pub put-blank-contents-requires : goal.put-blank-contents-requires
-put-blank-contents-requires g c =
+pub put_blank_contents-requires : goal.put_blank_contents-requires
+put_blank_contents-requires g c =
     let known = g.L.TypeLibrary.known c.args.library.now in
     let lawful = g.met.L.TypeLibrary.lawful c.args.library.now in
     let t = shown_section c.args.section in

@@ -16,26 +16,26 @@ check_geometry-requires g c =
     let fits = w.0 in
     omega arith
 
-pub returns-in-err-check-geometry : goal.returns-in-err-check_geometry
-returns-in-err-check-geometry g c =
+pub returns-in_err-check_geometry-in-Some : goal.returns-in_err-check_geometry-in-Some
+returns-in_err-check_geometry-in-Some g c =
     let known = g.L.TypeLibrary.known c.args.library.now in
     let p = err_from_is_err_and c.from_residual.result c.from_residual.ensures.1 in
     let told = items_refused known c.args.dictionary.now c.args.bytes.now c.stated_at-number.result c.stated_at-version.result c.stated_at-number.ensures c.stated_at-version.ensures
-    (placed_section c.in-Some.found) c.number_at.result c.check_geometry.result _ c.in-Some.ensures.value c.number_at.ensures c.check_geometry.ensures c.in-err-check_geometry.was in
+    (placed_section c.in-Some.found) c.number_at.result c.check_geometry.result _ c.in-Some.ensures.value c.number_at.ensures c.check_geometry.ensures c.in_err-check_geometry-in-Some.was in
     record {
       items = ap (all_remaining known) p.1 ∙ rw p.2 (sym told);
       holds = rw p.1 tt;
     }
 
-pub returns-in-ok-check-geometry : goal.returns-in_ok-check_geometry
-returns-in-ok-check-geometry g c =
+pub returns-in_ok-check_geometry-in-Some : goal.returns-in_ok-check_geometry-in-Some
+returns-in_ok-check_geometry-in-Some g c =
     let known = g.L.TypeLibrary.known c.args.library.now in
     let bs = c.args.bytes.now in
     let x = placed_section c.in-Some.found in
     let w = within c.stated_at-number.result c.stated_at-version.result c.args.dictionary.now c.seen.ensures x c.in-Some.ensures.value in
     let small : c.stated_at-root.result ≤ 65535 = search rules in
     let told = items_passed known c.args.dictionary.now bs c.stated_at-number.result c.stated_at-version.result c.stated_at-number.ensures c.stated_at-version.ensures
-    x c.number_at.result c.check_geometry.result _ c.in-Some.ensures.value c.number_at.ensures c.check_geometry.ensures c.in_ok-check_geometry.was in
+    x c.number_at.result c.check_geometry.result _ c.in-Some.ensures.value c.number_at.ensures c.check_geometry.ensures c.in_ok-check_geometry-in-Some.was in
     record {
       items =
           ap (λ (is : List Item). Ok is)

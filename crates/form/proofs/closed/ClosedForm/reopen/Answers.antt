@@ -17,8 +17,8 @@ returns-in-Ok g c =
     let s = c.args.dictionary.now in
     let buffer = c.args.buffer.now in
     let f = c.args.self in
-    let law = steps_are_calls known (g.met.L.TypeLibrary.lawful c.args.library.now) s buffer (All-from_get_or (λ b. b < 256) buffer 0 (λ i _. (c.type-inv.buffer i).fits)) in
-    let is = ap (working known s buffer) (sym c.numbers.ensures) ∙ sym c.works-on.ensures.value ∙ ap shown_working c.in-Ok.is in
+    let law = steps_are_calls known (g.met.L.TypeLibrary.lawful c.args.library.now) s buffer (All-from_get_or (λ b. b < 256) buffer 0 (λ i _. (c.type_inv.buffer i).fits)) in
+    let is = ap (working known s buffer) (sym c.numbers.ensures) ∙ sym c.works_on.ensures.value ∙ ap shown_working c.in-Ok.is in
     let verdict : Verdict = bind (working known s buffer (closed_numbers f)) (λ _. Ok tt) in
     reopened known (dictionary_of s) buffer f (reopening known s (by_buffer known s buffer) (closed_numbers f)) verdict (law.reopened_same (closed_numbers f)) (law.reopens (closed_numbers f)) (ap (λ x. bind x (λ _. Ok tt)) is)
 
@@ -28,7 +28,7 @@ returns-in-Err g c =
     let s = c.args.dictionary.now in
     let buffer = c.args.buffer.now in
     let f = c.args.self in
-    let law = steps_are_calls known (g.met.L.TypeLibrary.lawful c.args.library.now) s buffer (All-from_get_or (λ b. b < 256) buffer 0 (λ i _. (c.type-inv.buffer i).fits)) in
-    let is = ap (working known s buffer) (sym c.numbers.ensures) ∙ sym c.works-on.ensures.value ∙ ap shown_working c.in-Err.is in
+    let law = steps_are_calls known (g.met.L.TypeLibrary.lawful c.args.library.now) s buffer (All-from_get_or (λ b. b < 256) buffer 0 (λ i _. (c.type_inv.buffer i).fits)) in
+    let is = ap (working known s buffer) (sym c.numbers.ensures) ∙ sym c.works_on.ensures.value ∙ ap shown_working c.in-Err.is in
     let verdict : Verdict = bind (working known s buffer (closed_numbers f)) (λ _. Ok tt) in
     not_reopened known (dictionary_of s) buffer f (reopening known s (by_buffer known s buffer) (closed_numbers f)) verdict c.in-Err.e (law.reopens (closed_numbers f)) (ap (λ x. bind x (λ _. Ok tt)) is)

@@ -14,8 +14,8 @@ returns-in-Ok g c =
     let s = c.args.dictionary.now in
     let buffer = c.args.buffer.now in
     let f = c.args.self in
-    let law = steps_are_calls known (g.met.L.TypeLibrary.lawful c.args.library.now) s buffer (All-from_get_or (λ b. b < 256) buffer 0 (λ i _. (c.type-inv.buffer i).fits)) in
-    let told = ap (close_step known s buffer) (sym c.numbers.ensures) ∙ sym c.check-closed.ensures ∙ c.in-Ok.is in
+    let law = steps_are_calls known (g.met.L.TypeLibrary.lawful c.args.library.now) s buffer (All-from_get_or (λ b. b < 256) buffer 0 (λ i _. (c.type_inv.buffer i).fits)) in
+    let told = ap (close_step known s buffer) (sym c.numbers.ensures) ∙ sym c.check_closed.ensures ∙ c.in-Ok.is in
     closed known (dictionary_of s) buffer f (closing known s (by_buffer known s buffer) (open_numbers f)) (close_step known s buffer (open_numbers f)) (law.closed_same (open_numbers f)) (law.closes (open_numbers f)) told
 
 pub returns-in-Err : goal.returns-in-Err
@@ -24,6 +24,6 @@ returns-in-Err g c =
     let s = c.args.dictionary.now in
     let buffer = c.args.buffer.now in
     let f = c.args.self in
-    let law = steps_are_calls known (g.met.L.TypeLibrary.lawful c.args.library.now) s buffer (All-from_get_or (λ b. b < 256) buffer 0 (λ i _. (c.type-inv.buffer i).fits)) in
-    let told = ap (close_step known s buffer) (sym c.numbers.ensures) ∙ sym c.check-closed.ensures ∙ c.in-Err.is in
+    let law = steps_are_calls known (g.met.L.TypeLibrary.lawful c.args.library.now) s buffer (All-from_get_or (λ b. b < 256) buffer 0 (λ i _. (c.type_inv.buffer i).fits)) in
+    let told = ap (close_step known s buffer) (sym c.numbers.ensures) ∙ sym c.check_closed.ensures ∙ c.in-Err.is in
     not_closed known (dictionary_of s) buffer f (closing known s (by_buffer known s buffer) (open_numbers f)) (close_step known s buffer (open_numbers f)) c.in-Err.e (law.closes (open_numbers f)) told

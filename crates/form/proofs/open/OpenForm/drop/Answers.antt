@@ -12,33 +12,33 @@ use Rattle.form.specs.Forms.{open_numbers, Fills}
 use Rattle.form.proofs.Filled.{called, refused_early, refused_late, done}
 use Rattle.form.proofs.open.OpenForm.drop.Goals as goal
 
-pub returns-in-err-section : goal.returns-in-err-section
-returns-in-err-section g c =
+pub returns-in_err-section : goal.returns-in_err-section
+returns-in_err-section g c =
     let known = g.L.TypeLibrary.known c.args.library.now in
     let s = c.args.dictionary.now in
     let buffer = c.args.buffer.now in
     let f = c.args.self.now in
-    let law = steps_are_calls known (g.met.L.TypeLibrary.lawful c.args.library.now) s buffer c.works-on.ensures.bytes in
+    let law = steps_are_calls known (g.met.L.TypeLibrary.lawful c.args.library.now) s buffer c.works_on.ensures.bytes in
     let k = remove c.args.group in
     let step = λ (t : Section). drop_step known (template_of t) f.version f.length buffer c.args.group in
     let is = law.drops (open_numbers f) c.args.group in
-    let p = err_from_is_err_and c.from-residual.result c.from-residual.ensures.1 in
-    subst (λ r. Fills known (dictionary_of s) (called known s buffer law f k) r f f buffer buffer) (sym p.1) (rw p.2 (refused_early known s buffer law f k step is c.in-err-section.field-0.0 (ap (working known s buffer) (sym c.numbers.ensures) ∙ sym c.works-on.ensures.value ∙ ap shown_working c.in-err-section.was)))
+    let p = err_from_is_err_and c.from_residual.result c.from_residual.ensures.1 in
+    subst (λ r. Fills known (dictionary_of s) (called known s buffer law f k) r f f buffer buffer) (sym p.1) (rw p.2 (refused_early known s buffer law f k step is c.in_err-section.field-0.0 (ap (working known s buffer) (sym c.numbers.ensures) ∙ sym c.works_on.ensures.value ∙ ap shown_working c.in_err-section.was)))
 
-pub returns-in-err-self : goal.returns-in-err-self
-returns-in-err-self g c =
+pub returns-in_err-self : goal.returns-in_err-self
+returns-in_err-self g c =
     let known = g.L.TypeLibrary.known c.args.library.now in
     let s = c.args.dictionary.now in
     let buffer = c.args.buffer.now in
     let f = c.args.self.now in
-    let law = steps_are_calls known (g.met.L.TypeLibrary.lawful c.args.library.now) s buffer c.works-on.ensures.bytes in
+    let law = steps_are_calls known (g.met.L.TypeLibrary.lawful c.args.library.now) s buffer c.works_on.ensures.bytes in
     let k = remove c.args.group in
     let step = λ (t : Section). drop_step known (template_of t) f.version f.length buffer c.args.group in
     let is = law.drops (open_numbers f) c.args.group in
-    let t = shown_section c.in-ok-section.section in
-    let left = subst (λ r. Leaves (step t) r buffer c.drop_entry.new.buffer) c.in-err-self.was (c.drop_entry.ensures known) in
-    let p = err_from_is_err_and c.from-residual-in-err-self.result c.from-residual-in-err-self.ensures.1 in
-    subst (λ r. Fills known (dictionary_of s) (called known s buffer law f k) r f f buffer c.drop_entry.new.buffer) (sym p.1) (rw p.2 (refused_late known s buffer law f k step is t c.in-err-self.field-0.0 c.drop_entry.new.buffer (ap (working known s buffer) (sym c.numbers.ensures) ∙ sym c.works-on.ensures.value ∙ ap shown_working c.in-ok-section.was) left))
+    let t = shown_section c.in_ok-section.section in
+    let left = subst (λ r. Leaves (step t) r buffer c.drop_entry.new.buffer) c.in_err-self.was (c.drop_entry.ensures known) in
+    let p = err_from_is_err_and c.from_residual-in_err-self.result c.from_residual-in_err-self.ensures.1 in
+    subst (λ r. Fills known (dictionary_of s) (called known s buffer law f k) r f f buffer c.drop_entry.new.buffer) (sym p.1) (rw p.2 (refused_late known s buffer law f k step is t c.in_err-self.field-0.0 c.drop_entry.new.buffer (ap (working known s buffer) (sym c.numbers.ensures) ∙ sym c.works_on.ensures.value ∙ ap shown_working c.in_ok-section.was) left))
 
 pub returns : goal.returns
 returns g c =
@@ -46,13 +46,13 @@ returns g c =
     let s = c.args.dictionary.now in
     let buffer = c.args.buffer.now in
     let f = c.args.self.now in
-    let law = steps_are_calls known (g.met.L.TypeLibrary.lawful c.args.library.now) s buffer c.works-on.ensures.bytes in
+    let law = steps_are_calls known (g.met.L.TypeLibrary.lawful c.args.library.now) s buffer c.works_on.ensures.bytes in
     let k = remove c.args.group in
     let step = λ (t : Section). drop_step known (template_of t) f.version f.length buffer c.args.group in
     let is = law.drops (open_numbers f) c.args.group in
-    let t = shown_section c.in-ok-section.section in
-    let left = subst (λ r. Leaves (step t) r buffer c.drop_entry.new.buffer) c.in-ok-self.was (c.drop_entry.ensures known) in
-    done known s buffer law f k step is t c.in-ok-self.field-0 c.drop_entry.new.buffer (ap (working known s buffer) (sym c.numbers.ensures) ∙ sym c.works-on.ensures.value ∙ ap shown_working c.in-ok-section.was) left
+    let t = shown_section c.in_ok-section.section in
+    let left = subst (λ r. Leaves (step t) r buffer c.drop_entry.new.buffer) c.in_ok-self.was (c.drop_entry.ensures known) in
+    done known s buffer law f k step is t c.in_ok-self.field-0 c.drop_entry.new.buffer (ap (working known s buffer) (sym c.numbers.ensures) ∙ sym c.works_on.ensures.value ∙ ap shown_working c.in_ok-section.was) left
 
-pub drop-entry-requires : goal.drop-entry-requires
-drop-entry-requires g c = subst (λ n. n.length ≤ 16384) c.numbers.ensures c.in-ok-section.ensures.ready.1
+pub drop_entry-requires : goal.drop_entry-requires
+drop_entry-requires g c = subst (λ n. n.length ≤ 16384) c.numbers.ensures c.in_ok-section.ensures.ready.1
