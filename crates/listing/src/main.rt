@@ -41,7 +41,7 @@ fn digit(n: u8) -> char
 
 // Writes the two digits of a byte.
 fn put_pair<W: fmt::Write>(f: &mut fmt::Formatter<W>, b: u8) -> fmt::Result
-    ensures { WritesOnOk write_str_gives f.old result (pair b) f.new }
+    ensures { WritesOnOk W.write_str_gives f.old result (pair b) f.new }
 {
     let high = digit(b / 16);
     let low = digit(b % 16);
@@ -60,7 +60,7 @@ fn first_byte(bytes: &[u8]) -> u8
 
 // Writes the two digits of each byte.
 fn put_pairs<W: fmt::Write>(f: &mut fmt::Formatter<W>, bytes: &[u8]) -> fmt::Result
-    ensures { WritesOnOk write_str_gives f.old result (pairs bytes.now) f.new }
+    ensures { WritesOnOk W.write_str_gives f.old result (pairs bytes.now) f.new }
 {
     if bytes.len() == 0 {
         return Ok(());

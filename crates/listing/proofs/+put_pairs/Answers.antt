@@ -10,5 +10,5 @@ returns-then-bytes-eq0 g t c plain ok =
 
 pub returns : goal.returns
 returns g t c plain ok =
-    let x = c.put-pair.ensures plain (ap is_ok c.in-ok-put-pair.was) in
-    has_written_of_eq g.W.Write.write_str_gives _ _ _ _ ((λ i. pair (c.first-byte.ensures i) ++ pairs (c.tail.ensures.value i)) ∙ one_more c.args.bytes.now c.if-bytes-eq0.false) (has_written_append g.W.Write.write_str_gives _ _ _ _ _ x (c.put-pairs.ensures x.plain ok))
+    let x = c.put_pair.ensures plain (ap is_ok c.in_ok-put_pair.was) in
+    has_written_of_eq g.W.Write.write_str_gives _ _ _ _ ((λ i. pair (c.first_byte.ensures i) ++ pairs (c.tail.ensures.value i)) ∙ one_more c.args.bytes.now c.if-bytes-eq0.false) (has_written_append g.W.Write.write_str_gives _ _ _ _ _ x (c.put_pairs.ensures x.plain ok))

@@ -7,7 +7,7 @@ use Rattle.order.proofs.shown.put_pairs.Goals as goal
 
 pub loop-i-preserved : goal.loop-i-preserved
 loop-i-preserved g c =
-    (omega (arith, c.loop-i-test.true), λ plain. let x = c.loop-i.invariant.1 plain in has_written_of_eq g.W.Write.write_str_gives _ _ _ _ (one_more c.args.bytes.now c.loop-i.i c.loop-i-test.true) (has_written_append g.W.Write.write_str_gives _ _ _ _ _ x (c.put-pair.ensures x.plain (ap is_ok c.in-ok-put-pair.was))))
+    (omega (arith, c.loop-i-test.true), λ plain. let x = c.loop-i.invariant.1 plain in has_written_of_eq g.W.Write.write_str_gives _ _ _ _ (one_more c.args.bytes.now c.loop-i.i c.loop-i-test.true) (has_written_append g.W.Write.write_str_gives _ _ _ _ _ x (c.put_pair.ensures x.plain (ap is_ok c.in_ok-put_pair.was))))
 
 pub returns : goal.returns
 returns g c plain ok =
