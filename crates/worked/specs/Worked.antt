@@ -63,7 +63,7 @@ abbrev pub calls : ℕ → List Call → List Call
 calls version more =
     begin 7 version ∷ (fill (set 0 0 11 (unsigned 5)) ∷ (fill (set 0 0 54 (unsigned 49)) ∷ (fill (append 78) ∷ (fill (set 78 0 80 (unsigned 100)) ∷ (fill (write 5149 (79 ∷ 75 ∷ [])) ∷ more)))))
 
--- The worked examples under the two libraries that ship.
+-- The worked examples of dictionaries and frames under the two libraries that ship.
 pub record WorkedExamples : Type 0 where
   pub dictionary_passes : verdict base_kinds dictionary ≡ fine
   pub frame_is_accepted : frame_verdict base_kinds dictionary newest ≡ fine
@@ -76,6 +76,9 @@ pub record WorkedExamples : Type 0 where
   pub code_not_listed : frame_verdict base_kinds dictionary (altered 16 51) ≡ Err (refusal reason.NoPattern 16 54)
   pub required_field_absent : frame_verdict base_kinds dictionary (altered 16 0) ≡ Err (refusal reason.RequiredAbsent 16 54)
   pub nobody_is_no_investor : pattern_of (base_kinds 66 []) (investor 0 0) ≡ Err (plain reason.NoSuchValue)
+
+-- The worked examples of calls on a form under them.
+pub record WorkedCalls : Type 0 where
   pub zero_names_absent : setting 110 0 ≡ Err (refusal reason.NoSuchValue 18 110)
   pub largest_is_taken : setting 110 65535 ≡ Ok message_settled
   pub all_bits_one_names_absent : setting 11 4294967295 ≡ Err (refusal reason.NoSuchValue 12 11)
