@@ -1,5 +1,5 @@
 -- Groups without entries and empty data, written one after the other, and blank contents as a whole.
-use Rattle.std.proofs.Common.{◌≡◌, ℕ, ◌+◌, ◌-◌, ◌≤◌, List, [], ◌∷◌, ◌++◌, map, length, sym, refl, ap, ◌∙◌, ap₂, append_assoc, arith, length-append}
+use Rattle.std.proofs.Common.{◌≡◌, ℕ, ◌+◌, ◌-◌, ◌≤◌, List, [], ◌∷◌, ◌++◌, map, length, sym, refl, ap, ◌∙◌, append_assoc, arith, length-append}
 use Rattle.types.specs.Kinds.{Known, AllLawful}
 use Rattle.schema.specs.Structure.{Group, Template}
 use Rattle.message.specs.Frames.{groups_bytes}

@@ -1,5 +1,5 @@
 -- The six numbers of a header, put one after the other.
-use Rattle.std.proofs.Common.{◌≡◌, ℕ, ◌+◌, ◌≤◌, List, ◌++◌, length, refl, arith}
+use Rattle.std.proofs.Common.{◌≡◌, ℕ, ◌≤◌, List, ◌++◌, length, refl, arith}
 use Rattle.wire.specs.Numbers.{le_bytes}
 use Rattle.message.specs.Messages.{header}
 use Rattle.moves.specs.Moves.{patched}

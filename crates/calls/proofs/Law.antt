@@ -1,6 +1,5 @@
 -- The law over every list of calls, put together.
-use Rattle.std.proofs.Common.{◌≡◌, ℕ, ◌≤◌, true, List, length, Some, ap, ◌∙◌, subst, arith}
-use Rattle.std.specs.List.{AllByRecursion as All}
+use Rattle.std.proofs.Common.{◌≡◌, ℕ, ◌≤◌, true, List, length, Some, ap, ◌∙◌, arith}
 use Rattle.wire.specs.Bytes.{Bytes}
 use Rattle.types.specs.Kinds.{Known, AllLawful}
 use Rattle.schema.specs.Verdicts.{fine}
@@ -9,8 +8,7 @@ use Rattle.schema.specs.Laws.{Checked}
 use Rattle.schema.proofs.Exact.{passes_exactly}
 use Rattle.message.specs.Messages.{message_of, frame_verdict, stated_version}
 use Rattle.message.proofs.Exact.{accepted_exactly}
-use Rattle.calls.specs.Calls.{Call, SayableCall}
-use Rattle.calls.specs.Laws.{IsWhatItsMessagesSay, LeftByCalls, WhatClosesIsWhatCallsMake, KeepsTheLaw, EveryListKeepsTheLaw}
+use Rattle.calls.specs.Laws.{IsWhatItsMessagesSay, LeftByCalls, WhatClosesIsWhatCallsMake, EveryListKeepsTheLaw}
 use Rattle.calls.proofs.RunLaws.{is_what_its_messages_say, frames_equal_exactly, frame_of_closed, closes, left_is_accepted}
 use Rattle.calls.proofs.Alike.{alike}
 use Rattle.calls.proofs.ReadAcross.{left_read_by_later, left_read_by_earlier}

@@ -6,7 +6,7 @@ use Rattle.wire.specs.Bytes.{Bytes}
 use Rattle.wire.specs.Refusals.{refusal, bind}
 use Rattle.types.specs.Meanings.{Meaning, Sayable}
 use Rattle.types.specs.Kinds.{Known}
-use Rattle.schema.specs.Verdicts.{Verdict, rule, ◌then◌}
+use Rattle.schema.specs.Verdicts.{rule}
 use Rattle.schema.specs.Structure.{Template, Dictionary}
 use Rattle.schema.specs.Reading.{dictionary_of}
 use Rattle.schema.specs.Seen.{template_at}

@@ -15,8 +15,8 @@ use Rattle.schema.specs.Editions.{EarlierEdition}
 use Rattle.schema.specs.Laws.{Checked}
 use Rattle.message.specs.Messages.{Message, frame, frame_verdict, stated_version, Stands, Closes}
 use Rattle.message.specs.Lookup.{Reading, means, holds, lookup, not_found, frame_reading, message_reading}
-use Rattle.calls.specs.Calls.{Call, SayableCall, Form, no_form, opened, closed, form_of, refused}
-use Rattle.calls.specs.Runs.{Turn, run_by_messages, run_by_buffer, message_left, frame_left, OpensUpTo}
+use Rattle.calls.specs.Calls.{Call, SayableCall, no_form, opened, closed, form_of, refused}
+use Rattle.calls.specs.Runs.{run_by_messages, run_by_buffer, message_left, frame_left, OpensUpTo}
 
 -- ---- a run is what its messages say
 

@@ -1,5 +1,5 @@
 -- Lists of calls on one buffer, under one dictionary and one library: by the messages that they add up to, and by what each call finds in the buffer. Assumes nothing.
-use Rattle.std.specs.Prelude.{◌≡◌, ℕ, ◌≤◌, List, [], ◌∷◌, length, take, Some, None, Option}
+use Rattle.std.specs.Prelude.{ℕ, ◌≤◌, List, [], ◌∷◌, length, take, Some, None, Option}
 use Rattle.types.specs.Kinds.{Known}
 use Rattle.schema.specs.Reading.{dictionary_of}
 use Rattle.message.specs.Messages.{Message}

@@ -1,5 +1,6 @@
 // A list of calls in bytes.
 ghost use Rattle.std.specs.Prelude.{◌≤◌, length};
+
 use crate::taken::Taken;
 use replay::Call;
 use types::Value;

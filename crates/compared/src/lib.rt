@@ -5,5 +5,4 @@ mod asked;
 mod run;
 mod taken;
 
-pub use run::compared_cut;
-pub use run::compared_run;
+pub use run::{compared_cut, compared_run};

@@ -1,18 +1,12 @@
 // The cutter and lists of calls, for the comparison.
 ghost use Rattle.std.specs.Prelude.{◌≡◌, ◌+◌, ◌≤◌, length};
-use crate::asked::Asked;
-use crate::asked::behind;
+
+use crate::asked::{Asked, behind};
 use crate::taken::Taken;
 use base::BASE;
-use replay::Answer;
-use replay::Call;
-use replay::Form;
-use replay::run;
+use replay::{Answer, Call, Form, run};
 use std::slice;
-use wire::Piece;
-use wire::beyond;
-use wire::cut;
-use wire::le_put;
+use wire::{Piece, beyond, cut, le_put};
 
 // How many bytes an answer has.
 const ANSWER: usize = 16;

@@ -1,8 +1,7 @@
 // Numbers and bytes taken one after the other from the front of bytes.
 ghost use Rattle.std.specs.Prelude.{◌≤◌, length};
-use wire::beyond;
-use wire::le_read;
-use wire::upto;
+
+use wire::{beyond, le_read, upto};
 
 // What is still to be taken.
 #[derive(Clone, Copy)]

@@ -1,5 +1,5 @@
 -- The first line of bytes, by the bytes that its length byte cuts off.
-use Rattle.std.proofs.Common.{◌≡◌, ℕ, ◌≤◌, cond, ◌&&◌, leb, List, length, get_or, take, sym, ap, ◌∙◌, ap₂}
+use Rattle.std.proofs.Common.{◌≡◌, ℕ, ◌≤◌, ◌&&◌, leb, List, length, get_or, take, sym, ◌∙◌, ap₂}
 use Rattle.std.proofs.lemmas.Bool.{le-leb, and_from, cond-true}
 use Rattle.schema.specs.Lines.{line_of, first_line}
 

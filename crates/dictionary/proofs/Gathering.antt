@@ -1,7 +1,6 @@
 -- What is gathered of a tag is what stands above.
-use Rattle.std.proofs.Common.{◌≡◌, ℕ, suc, ◌+◌, ◌-◌, ◌<◌, ◌≤◌, Bool, true, false, cond, ◌||◌, eqb, List, [], ◌∷◌, ◌++◌, length, take, drop, Some, None, Ok, Err, Option, Result, sym, refl, ap, ◌∙◌, subst, ap₂, add-one, arith, length-drop}
+use Rattle.std.proofs.Common.{◌≡◌, ℕ, ◌+◌, ◌-◌, ◌<◌, ◌≤◌, Bool, true, false, cond, ◌||◌, eqb, List, [], ◌∷◌, ◌++◌, length, take, drop, Some, None, Ok, Err, Option, Result, sym, refl, ap, ◌∙◌, subst, ap₂, add-one, arith, length-drop}
 use Rattle.std.proofs.lemmas.List.{drop-drop, take_all}
-use Rattle.schema.specs.Structure.{Field, Data}
 use Rattle.schema.specs.Lines.{Line, field, group, end, part, line_size, first_line, lines, onward, there}
 use Rattle.schema.specs.Shape.{Above, Stage, root, inside, behind, closing, nothing_above, past, member, in_order, well_named, ended, lines_shape}
 use Rattle.schema.specs.Verdicts.{Verdict, fine, rule, ◌then◌}

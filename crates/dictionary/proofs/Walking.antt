@@ -1,5 +1,5 @@
 -- Walking over the lines of bytes, as the loops do it.
-use Rattle.std.proofs.Common.{◌≡◌, ℕ, ◌+◌, ◌-◌, ◌<◌, ◌≤◌, List, [], ◌∷◌, length, drop, Some, None, Option, sym, refl, ap, ◌∙◌, subst, add_assoc, arith}
+use Rattle.std.proofs.Common.{◌≡◌, ℕ, ◌+◌, ◌<◌, ◌≤◌, List, [], ◌∷◌, length, drop, Some, None, Option, sym, ap, ◌∙◌, arith}
 use Rattle.schema.specs.Lines.{Line, line_size, first_line, lines, there}
 use Rattle.schema.specs.Sections.{Section, section_size, first_section, sections}
 use Rattle.schema.proofs.Pieces.{Pieces, at_piece, at_no_piece, at_end, behind_piece}

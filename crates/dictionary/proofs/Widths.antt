@@ -1,5 +1,5 @@
 -- A width that a library answers is at most 20.
-use Rattle.std.proofs.Common.{◌≡◌, ℕ, ◌≤◌, Some, None, Ok, Err, Option, Result, sym, refl, ap, ◌∙◌, subst, arith}
+use Rattle.std.proofs.Common.{◌≡◌, ℕ, ◌≤◌, Some, None, Ok, Option, Result, refl, ap, ◌∙◌, subst, arith}
 use Rattle.wire.specs.declared.refusal.Refusal.{Refusal}
 use Rattle.wire.specs.Refusals.{located_as}
 use Rattle.types.specs.Kinds.{Kind, Lawful}

@@ -1,12 +1,12 @@
 -- What the lines of the code say. Assumes nothing.
-use Rattle.std.specs.Prelude.{ℕ, List, Option}
+use Rattle.std.specs.Prelude.{ℕ, Option}
 use Rattle.std.specs.Option.{option_map}
 use Rattle.dictionary.specs.declared.line.FieldLine.{FieldLine}
 use Rattle.dictionary.specs.declared.line.Line.{Line as CodeLine}
 use Rattle.dictionary.specs.declared.line.Line.TheVariants as code
 use Rattle.dictionary.specs.declared.section.Section.{Section as CodeSection}
 use Rattle.schema.specs.Sections.{Section}
-use Rattle.schema.specs.Structure.{Field, Data}
+use Rattle.schema.specs.Structure.{Field}
 use Rattle.schema.specs.Lines.{Line, field, group, end, part}
 
 abbrev pub shown_field : FieldLine → Field

@@ -1,11 +1,11 @@
 -- The verdicts on one template and on one line, as the loops take them one by one. Assumes nothing.
-use Rattle.std.specs.Prelude.{ℕ, ◌+◌, ◌^◌, ◌<◌, Bool, ◌&&◌, List, drop, Ok, Err, Result, nat_le}
+use Rattle.std.specs.Prelude.{ℕ, ◌+◌, Bool, ◌&&◌, List, drop, Ok, Err, Result, nat_le}
 use Rattle.wire.specs.declared.refusal.Reason.TheVariants as reason
 use Rattle.wire.specs.declared.refusal.Refusal.{Refusal}
 use Rattle.wire.specs.Refusals.{bind}
 use Rattle.types.specs.Kinds.{Known}
 use Rattle.schema.specs.Verdicts.{Verdict, rule, ◌then◌}
-use Rattle.schema.specs.Lines.{Line, part, lines}
+use Rattle.schema.specs.Lines.{Line, lines}
 use Rattle.schema.specs.Sections.{Section, sections}
 use Rattle.schema.specs.Shape.{lines_shape, nothing_above, sections_shape}
 use Rattle.schema.specs.Reading.{version_of, sections_of}

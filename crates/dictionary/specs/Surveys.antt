@@ -1,11 +1,11 @@
 -- What the lines above a line say of one tag, as the code gathers it. Assumes nothing.
-use Rattle.std.specs.Prelude.{ℕ, suc, ◌+◌, Bool, true, false, cond, not, ◌&&◌, ◌||◌, List, [], ◌∷◌, length, Some, None, Ok, Err, Option, Result, ◌==◌, nat_lt}
+use Rattle.std.specs.Prelude.{ℕ, ◌+◌, Bool, true, false, not, ◌&&◌, ◌||◌, List, [], ◌∷◌, length, Some, None, Ok, Err, Option, Result, ◌==◌, nat_lt}
 use Rattle.wire.specs.declared.refusal.Reason.TheVariants as reason
 use Rattle.wire.specs.declared.refusal.Refusal.{Refusal}
 use Rattle.wire.specs.Refusals.{refusal, bind}
 use Rattle.schema.specs.Verdicts.{rule}
 use Rattle.schema.specs.Lines.{Line, field, group, end, part, line_size}
-use Rattle.schema.specs.Shape.{Above, nothing_above, past, member, in_order, well_named}
+use Rattle.schema.specs.Shape.{Above, past, member, in_order, well_named}
 use Rattle.schema.specs.Shape.{Stage as SpecStage, root, inside, behind, closing}
 use Rattle.dictionary.specs.declared.shape.Stage.{Stage}
 use Rattle.dictionary.specs.declared.shape.Stage.TheVariants as code

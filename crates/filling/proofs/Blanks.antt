@@ -1,5 +1,5 @@
 -- Blanks that are put where there is room for them.
-use Rattle.std.proofs.Common.{◌≡◌, ℕ, ◌+◌, Bool, true, false, cond, leb, List, length, Some, Ok, sym, ap, ◌∙◌, subst}
+use Rattle.std.proofs.Common.{◌≡◌, ℕ, ◌+◌, true, false, cond, leb, List, length, Some, Ok, sym, ap, ◌∙◌, subst}
 use Rattle.moves.specs.Moves.{patched}
 use Rattle.types.specs.Kinds.{Known}
 use Rattle.schema.specs.Verdicts.{fine}

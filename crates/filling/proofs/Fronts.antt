@@ -1,5 +1,5 @@
 -- The template that a form is filled in by, from what the code finds.
-use Rattle.std.proofs.Common.{◌≡◌, ℕ, ◌<◌, ◌≤◌, Bool, true, false, cond, ◌&&◌, leb, List, length, take, Some, None, Ok, Err, Option, Result, sym, refl, ap, ◌∙◌}
+use Rattle.std.proofs.Common.{◌≡◌, ℕ, ◌<◌, ◌≤◌, Bool, true, false, cond, ◌&&◌, leb, List, length, take, Some, None, Ok, Err, Result, sym, refl, ap, ◌∙◌}
 use Rattle.std.proofs.lemmas.Bool.{le-leb, lt-leb}
 use Rattle.wire.specs.declared.refusal.Reason.TheVariants as reason
 use Rattle.wire.specs.declared.refusal.Refusal.{Refusal}
@@ -7,7 +7,7 @@ use Rattle.wire.specs.Refusals.{refusal, bind}
 use Rattle.types.specs.Kinds.{Known}
 use Rattle.schema.specs.Verdicts.{Verdict, fine, rule, ◌then◌}
 use Rattle.schema.specs.Reading.{version_of, dictionary_of}
-use Rattle.message.specs.Messages.{Message, is_there, message_of}
+use Rattle.message.specs.Messages.{is_there, message_of}
 use Rattle.message.specs.Fronts.{is_frame_of, front_message}
 use Rattle.calls.specs.Calls.{Numbers}
 use Rattle.steps.specs.Steps.{not_this_form, working}

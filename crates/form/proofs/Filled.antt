@@ -12,7 +12,7 @@ use Rattle.schema.specs.Sections.{Section}
 use Rattle.schema.specs.Reading.{dictionary_of}
 use Rattle.message.specs.Blocks.{is_absent}
 use Rattle.message.specs.Messages.{Message, frame}
-use Rattle.calls.specs.Calls.{Fill, Numbers, by_buffer, opening, filling, numbers_of, laid}
+use Rattle.calls.specs.Calls.{Fill, by_buffer, opening, filling, numbers_of, laid}
 use Rattle.steps.specs.Steps.{Left, Leaves, left_of, after, verdict_of, working, open_step}
 use Rattle.steps.specs.Laws.{StepsAreCalls}
 use Rattle.form.specs.declared.open.OpenForm.{OpenForm}

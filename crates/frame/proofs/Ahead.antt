@@ -1,7 +1,7 @@
 -- The first group and the first data of lines.
 use Rattle.std.proofs.Common.{◌≡◌, ℕ, ◌-◌, ◌<◌, true, false, cond, leb, List, [], ◌∷◌, length, drop, Some, None, sym, refl, ap, ◌∙◌, arith, length-drop}
-use Rattle.schema.specs.Structure.{Field, Group, Data}
-use Rattle.schema.specs.Lines.{Line, group, line_size, first_line, lines, onward, there}
+use Rattle.schema.specs.Structure.{Data}
+use Rattle.schema.specs.Lines.{Line, line_size, first_line, lines, onward, there}
 use Rattle.schema.specs.Reading.{groups_of, parts_of}
 use Rattle.schema.specs.Seen.{seen_parts}
 use Rattle.schema.proofs.LinePieces.{first_line_size, lines_none, lines_step}

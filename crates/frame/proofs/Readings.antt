@@ -1,11 +1,10 @@
 -- The steps that lead to a reading, as the definition of one has them.
-use Rattle.std.proofs.Common.{◌≡◌, ℕ, ◌+◌, ◌*◌, ◌<◌, ◌≤◌, Bool, true, false, cond, ◌&&◌, eqb, leb, ◌⊎◌, List, [], ◌∷◌, length, take, drop, Some, Option, Result, sym, refl, ap, ◌∙◌, ap₂, inl, inr, arith, drop-drop}
+use Rattle.std.proofs.Common.{◌≡◌, ℕ, ◌+◌, ◌*◌, ◌<◌, ◌≤◌, Bool, true, false, cond, eqb, leb, ◌⊎◌, List, [], ◌∷◌, drop, Some, Option, Result, sym, refl, ap, ◌∙◌, ap₂, inl, inr, arith, drop-drop}
 use Rattle.std.specs.Option.{option_map}
 use Rattle.std.proofs.lemmas.Bool.{cond-false, ne_eqb, cases_lt}
 use Rattle.wire.specs.declared.refusal.Refusal.{Refusal}
 use Rattle.types.specs.Kinds.{Known}
 use Rattle.schema.specs.Structure.{Field, Group, Data}
-use Rattle.schema.specs.Sections.{Section, section_size}
 use Rattle.schema.specs.Finding.{PlacedSection, section_at}
 use Rattle.schema.specs.Reading.{version_of, sections_of}
 use Rattle.message.specs.Frames.{group_length, content_of, part_length}

@@ -1,9 +1,9 @@
 -- The fields of a block, one by one.
-use Rattle.std.proofs.Common.{◌≡◌, ℕ, suc, ◌+◌, ◌-◌, ◌<◌, ◌≤◌, Bool, true, false, cond, ◌&&◌, eqb, leb, List, [], ◌∷◌, map, length, take, drop, Some, None, Ok, Err, Option, Result, sym, refl, ap, ◌∙◌, subst, ap₂, arith, length-drop}
+use Rattle.std.proofs.Common.{◌≡◌, ℕ, ◌+◌, ◌-◌, ◌<◌, ◌≤◌, Bool, true, false, cond, ◌&&◌, eqb, leb, List, [], ◌∷◌, map, length, take, drop, Some, None, Ok, Err, Option, sym, refl, ap, ◌∙◌, subst, ap₂, arith, length-drop}
 use Rattle.wire.specs.declared.refusal.Refusal.{Refusal}
 use Rattle.types.specs.Kinds.{Kind, Lawful, Known}
 use Rattle.types.specs.Answers.{width_of}
-use Rattle.schema.specs.Verdicts.{Verdict, fine, ◌then◌}
+use Rattle.schema.specs.Verdicts.{Verdict, ◌then◌}
 use Rattle.schema.specs.Structure.{Field}
 use Rattle.schema.specs.Lines.{Line, field, group, end, part, line_size, first_line, lines, onward, there}
 use Rattle.schema.specs.Reading.{fields_of}

@@ -1,9 +1,9 @@
 -- The entries of a group, one by one.
-use Rattle.std.proofs.Common.{◌≡◌, ℕ, zero, suc, ◌+◌, ◌-◌, ◌*◌, ◌<◌, ◌≤◌, Bool, true, false, cond, leb, List, [], ◌∷◌, length, drop, Ok, Err, sym, refl, ap, ◌∙◌, subst, ap₂, suc-mul, zero-mul, arith, length-drop}
+use Rattle.std.proofs.Common.{◌≡◌, ℕ, zero, suc, ◌+◌, ◌-◌, ◌*◌, ◌<◌, ◌≤◌, Bool, true, false, cond, leb, List, length, drop, Ok, Err, sym, refl, ap, ◌∙◌, suc-mul, zero-mul, arith, length-drop}
 use Rattle.std.proofs.lemmas.Bool.{le-leb, lt-leb, leb-true}
 use Rattle.wire.specs.declared.refusal.Reason.TheVariants as reason
 use Rattle.wire.specs.declared.refusal.Refusal.{Refusal}
-use Rattle.wire.specs.Refusals.{refusal, bind}
+use Rattle.wire.specs.Refusals.{refusal}
 use Rattle.schema.specs.Verdicts.{Verdict, fine, rule, ◌then◌}
 use Rattle.message.specs.Blocks.{BlockView, block_verdict}
 use Rattle.message.specs.Frames.{entries_verdict}

@@ -1,19 +1,17 @@
 -- The groups of a frame, one by one.
-use Rattle.std.proofs.Common.{◌≡◌, ℕ, zero, suc, ◌+◌, ◌-◌, ◌*◌, ◌<◌, ◌≤◌, Bool, true, false, cond, leb, List, [], ◌∷◌, map, length, drop, Ok, Err, Result, sym, refl, ap, ◌∙◌, subst, ap₂, arith, length-drop}
+use Rattle.std.proofs.Common.{◌≡◌, ℕ, ◌+◌, ◌≤◌, Bool, true, false, cond, leb, List, [], ◌∷◌, map, length, drop, Ok, Err, Result, sym, refl, ap, ◌∙◌, subst, ap₂, arith, length-drop}
 use Rattle.std.proofs.lemmas.Bool.{leb-true}
 use Rattle.wire.specs.declared.refusal.Reason.TheVariants as reason
 use Rattle.wire.specs.declared.refusal.Refusal.{Refusal}
 use Rattle.wire.specs.Refusals.{refusal, bind}
 use Rattle.types.specs.Kinds.{Known}
 use Rattle.schema.specs.Verdicts.{Verdict, fine, rule, ◌then◌}
-use Rattle.schema.specs.Structure.{Group}
 use Rattle.schema.specs.Lines.{lines, there}
 use Rattle.schema.specs.Reading.{fields_of, groups_of}
 use Rattle.schema.specs.Seen.{seen_group, length_at}
-use Rattle.message.specs.Frames.{GroupView, entries_verdict, group_verdict, groups_verdict, group_length, groups_length, entry_length, entry_count, length_fits, count_fits}
+use Rattle.message.specs.Frames.{entries_verdict, group_verdict, groups_verdict, group_length, groups_length, entry_length, entry_count, length_fits, count_fits}
 use Rattle.message.specs.Messages.{group_view}
-use Rattle.dictionary.proofs.Rounds.{then_assoc, passes_on, refused_at}
-use Rattle.judging.specs.Steps.{block_at, head_verdict, group_step, groups_step, groups_seen, Within}
+use Rattle.judging.specs.Steps.{block_at, head_verdict, group_step, groups_step, groups_seen}
 use Rattle.judging.proofs.Entries.{entries_there}
 
 -- what is left, with what was passed before it, is the whole

@@ -1,15 +1,14 @@
 -- The data of a frame, one by one.
-use Rattle.std.proofs.Common.{◌≡◌, ℕ, ◌+◌, ◌-◌, ◌<◌, ◌≤◌, Bool, true, false, cond, ◌||◌, eqb, leb, List, [], ◌∷◌, map, length, drop, Ok, Err, Result, sym, refl, ap, ◌∙◌, subst, ap₂, arith, length-drop}
+use Rattle.std.proofs.Common.{◌≡◌, ℕ, ◌+◌, ◌≤◌, Bool, true, false, cond, ◌||◌, eqb, leb, List, [], ◌∷◌, map, length, drop, Ok, Err, Result, sym, refl, ap, ◌∙◌, subst, ap₂, arith}
 use Rattle.std.proofs.lemmas.Bool.{leb-true}
 use Rattle.wire.specs.declared.refusal.Reason.TheVariants as reason
 use Rattle.wire.specs.declared.refusal.Refusal.{Refusal}
 use Rattle.wire.specs.Refusals.{refusal, bind}
 use Rattle.schema.specs.Verdicts.{Verdict, fine, rule, ◌then◌}
-use Rattle.schema.specs.Structure.{Data}
 use Rattle.schema.specs.Lines.{lines, there}
 use Rattle.schema.specs.Reading.{parts_of}
 use Rattle.schema.specs.Seen.{seen_parts}
-use Rattle.message.specs.Frames.{DataView, parts_verdict, content_length, part_length}
+use Rattle.message.specs.Frames.{parts_verdict, content_length, part_length}
 use Rattle.message.specs.Messages.{data_view}
 use Rattle.judging.specs.Steps.{part_step, parts_seen}
 

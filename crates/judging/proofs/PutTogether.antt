@@ -1,8 +1,8 @@
 -- The verdict on a frame, as it is put together.
-use Rattle.std.proofs.Common.{◌≡◌, ℕ, ◌+◌, ◌≤◌, Bool, true, false, cond, ◌&&◌, eqb, ltb, leb, List, [], ◌∷◌, map, length, drop, Some, None, Ok, Err, Option, Result, sym, refl, ap, ◌∙◌, subst, ap₂, arith}
+use Rattle.std.proofs.Common.{◌≡◌, ℕ, ◌+◌, Bool, true, false, cond, ◌&&◌, eqb, ltb, leb, List, length, drop, Some, None, Ok, Err, Option, sym, refl, ap, ◌∙◌, ap₂, arith}
 use Rattle.wire.specs.declared.refusal.Reason.TheVariants as reason
 use Rattle.wire.specs.declared.refusal.Refusal.{Refusal}
-use Rattle.wire.specs.Refusals.{refusal, bind}
+use Rattle.wire.specs.Refusals.{bind}
 use Rattle.wire.specs.Streams.{frame_length}
 use Rattle.types.specs.Kinds.{Known}
 use Rattle.schema.specs.Verdicts.{Verdict, fine, rule, ◌then◌}
@@ -16,8 +16,8 @@ use Rattle.schema.specs.Finding.{PlacedSection, section_at, seen_of}
 use Rattle.schema.proofs.Finding.{section_is_template}
 use Rattle.message.specs.Blocks.{fields_verdict}
 use Rattle.message.specs.Frames.{stated, length_fits, groups_verdict, groups_length, parts_verdict, contents_verdict}
-use Rattle.message.specs.Messages.{view_of, is_there, geometry_of, template_geometry, contents_by, verdict_when, stated_root, stated_template, stated_schema, stated_version}
-use Rattle.judging.specs.Steps.{slots_from, groups_seen, groups_step, parts_seen, behind_root, contents_step, found_step, template_step, header_verdict}
+use Rattle.message.specs.Messages.{view_of, is_there, geometry_of, contents_by, verdict_when, stated_root, stated_template, stated_schema, stated_version}
+use Rattle.judging.specs.Steps.{slots_from, groups_seen, parts_seen, contents_step, found_step, template_step, header_verdict}
 
 -- two rules that hold and a verdict that passes leave what follows
 pub opened : (a b : Bool) (e f : Refusal) (v w : Verdict) (x : Unit {0}) → a ≡ true → b ≡ true → v ≡ Ok x → (cond a fine (Err e) then (cond b fine (Err f) then (v then w))) ≡ w

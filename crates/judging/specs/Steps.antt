@@ -1,12 +1,12 @@
 -- The verdicts that the walk over a frame takes one by one. Assumes nothing.
-use Rattle.std.specs.Prelude.{ℕ, ◌+◌, ◌-◌, ◌≤◌, Bool, cond, ◌&&◌, List, [], ◌∷◌, map, length, take, drop, Some, None, Ok, Err, Option, Result, ◌==◌, nat_le, nat_lt}
+use Rattle.std.specs.Prelude.{ℕ, ◌+◌, ◌-◌, ◌≤◌, Bool, ◌&&◌, List, map, length, take, drop, Some, None, Ok, Err, Option, Result, ◌==◌, nat_le, nat_lt}
 use Rattle.wire.specs.declared.refusal.Reason.TheVariants as reason
 use Rattle.wire.specs.declared.refusal.Refusal.{Refusal}
 use Rattle.wire.specs.Refusals.{bind, refusal}
 use Rattle.types.specs.Kinds.{Known}
 use Rattle.schema.specs.Verdicts.{Verdict, rule, ◌then◌}
 use Rattle.schema.specs.Structure.{Field}
-use Rattle.schema.specs.Lines.{Line, field, group, end, part, lines, there}
+use Rattle.schema.specs.Lines.{lines, there}
 use Rattle.schema.specs.Reading.{fields_of, groups_of, parts_of, schema_of, version_of, sections_of}
 use Rattle.schema.specs.Seen.{seen_fields, seen_group, seen_parts, length_at}
 use Rattle.schema.specs.Geometry.{kind_of, width_or_0, section_geometry}

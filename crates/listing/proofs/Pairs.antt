@@ -1,5 +1,5 @@
 -- Bytes in hexadecimal, one after another.
-use Rattle.std.proofs.Common.{◌≡◌, ℕ, suc, ◌<◌, List, [], ◌∷◌, ◌++◌, length, get_or, drop, refl, arith}
+use Rattle.std.proofs.Common.{◌≡◌, ℕ, List, [], ◌∷◌, ◌++◌, length, get_or, drop, refl, arith}
 use Rattle.listing.specs.Written.{pair, pairs}
 
 pub no_pairs : (s : List ℕ) → length s ≡ 0 → [] ≡ pairs s

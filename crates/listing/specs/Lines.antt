@@ -1,5 +1,5 @@
 -- Which line each thing in a stream gives. Assumes nothing.
-use Rattle.std.specs.Prelude.{ℕ, ◌+◌, ◌<◌, ◌≤◌, Bool, cond, List, length, drop, Ok, Err, Option, Result}
+use Rattle.std.specs.Prelude.{ℕ, ◌+◌, ◌<◌, ◌≤◌, Bool, cond, List, length, drop, Ok, Err, Result}
 use Rattle.wire.specs.declared.refusal.Refusal.{Refusal}
 use Rattle.wire.specs.Refusals.{located_as}
 use Rattle.wire.specs.Streams.{Front, missing, whole, front_of}

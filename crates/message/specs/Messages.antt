@@ -1,5 +1,5 @@
 -- A message, its frame under a dictionary, the verdict on a frame, and what a frame reads as. Assumes nothing.
-use Rattle.std.specs.Prelude.{◌≡◌, ℕ, ◌+◌, ◌≤◌, Bool, true, false, cond, ◌&&◌, List, [], ◌∷◌, ◌++◌, map, length, drop, Some, None, Option, ◌==◌, nat_lt}
+use Rattle.std.specs.Prelude.{◌≡◌, ℕ, ◌+◌, ◌≤◌, Bool, true, false, ◌&&◌, List, [], ◌++◌, map, length, drop, Some, None, Option, ◌==◌, nat_lt}
 use Rattle.wire.specs.declared.refusal.Reason.TheVariants as reason
 use Rattle.wire.specs.Numbers.{le_bytes}
 use Rattle.wire.specs.Streams.{frame_length}

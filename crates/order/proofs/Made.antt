@@ -1,5 +1,5 @@
 -- A list of one call.
-use Rattle.std.proofs.Common.{◌≡◌, ℕ, List, [], ◌∷◌, ◌++◌, map, length, get_or, drop, sym, refl, ap, ◌∙◌, arith}
+use Rattle.std.proofs.Common.{◌≡◌, ℕ, List, [], ◌∷◌, ◌++◌, map, length, get_or, drop, ap, ◌∙◌, arith}
 use Rattle.types.specs.Kinds.{Known}
 use Rattle.calls.specs.Calls as calls
 use Rattle.calls.specs.Calls.{Numbers}

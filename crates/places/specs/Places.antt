@@ -1,5 +1,5 @@
 -- Where the fields, groups and data of a form lie, found in the bytes of its frame by the lines of its template as they are seen at a version. Assumes nothing.
-use Rattle.std.specs.Prelude.{ℕ, ◌+◌, ◌*◌, cond, List, [], ◌∷◌, length, drop, Ok, Err, Result, ◌==◌, nat_lt}
+use Rattle.std.specs.Prelude.{ℕ, ◌+◌, ◌*◌, cond, List, [], ◌∷◌, length, drop, Ok, Result, ◌==◌, nat_lt}
 use Rattle.wire.specs.declared.refusal.Refusal.{Refusal}
 use Rattle.wire.specs.Refusals.{bind}
 use Rattle.schema.specs.Structure.{Field, Group, Data, Template}

@@ -4,7 +4,7 @@ use Rattle.wire.specs.declared.refusal.Refusal.{Refusal}
 use Rattle.types.specs.Kinds.{Known}
 use Rattle.schema.specs.Structure.{Template}
 use Rattle.schema.specs.Seen.{seen_template}
-use Rattle.message.specs.Frames.{GroupView, DataView, View, Contents}
+use Rattle.message.specs.Frames.{GroupView, DataView, Contents}
 use Rattle.message.specs.Messages.{slot_of, group_view, data_view, view_of}
 use Rattle.calls.specs.Changes.{FieldSpot, GroupSpot, PartSpot, field_spot, group_spot, part_spot}
 use Rattle.places.specs.Places.{PlacedField, PlacedGroup, PlacedPart, field_place, group_place, part_place}

@@ -1,7 +1,7 @@
 -- Calls made one after another: what is left gives what the whole gives.
 use Rattle.std.proofs.Common.{◌≡◌, ℕ, ◌+◌, ◌<◌, ◌≤◌, min, List, [], ◌∷◌, ◌++◌, map, length, get_or, take, drop, set, sym, refl, ap, ◌∙◌, subst, arith, length-take}
 use Rattle.std.specs.List.{AllByRecursion as All}
-use Rattle.std.proofs.lemmas.List.{append_assoc, append-nil, at_drop_more, at_drop_all, take_more_set, take_all, drop-set-lt, drop_all, drop-drop, drop-map, map-append, map_push, take-append-drop, length-map, get_or-take, get_or-map}
+use Rattle.std.proofs.lemmas.List.{append_assoc, append-nil, at_drop_more, at_drop_all, take_more_set, take_all, drop-set-lt, drop-drop, drop-map, map-append, map_push, take-append-drop, length-map, get_or-take, get_or-map}
 use Rattle.std.proofs.ByRecursion.{All-more}
 use Rattle.wire.specs.Bytes.{Bytes}
 use Rattle.types.specs.Kinds.{Known, AllLawful}

@@ -1,5 +1,5 @@
 -- The section that is found is the template of that number as seen at the version.
-use Rattle.std.proofs.Common.{◌≡◌, ℕ, ◌+◌, Bool, true, false, cond, ◌&&◌, eqb, leb, List, [], ◌∷◌, map, Some, None, Option, sym, refl, ap, ◌∙◌}
+use Rattle.std.proofs.Common.{◌≡◌, ℕ, ◌+◌, Bool, true, false, cond, ◌&&◌, eqb, leb, List, [], ◌∷◌, map, Some, Option, sym, refl, ap, ◌∙◌}
 use Rattle.schema.specs.Sections.{Section, section_size}
 use Rattle.schema.specs.Structure.{Template}
 use Rattle.schema.specs.Reading.{template_of, sections_of, dictionary_of}

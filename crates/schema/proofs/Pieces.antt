@@ -1,6 +1,6 @@
 -- Bytes cut into pieces, one after the other: the same argument for lines and for sections.
-use Rattle.std.proofs.Common.{◌≡◌, ℕ, zero, suc, ◌+◌, ◌-◌, ◌<◌, ◌≤◌, List, [], ◌∷◌, ◌++◌, map, length, take, drop, Some, None, Option, sym, refl, ap, ◌∙◌, subst, arith, length-append, length-drop, take-add}
-use Rattle.std.proofs.lemmas.List.{at_drop_more, at_drop_all, drop_all, drop-drop, drop-append-le, length-take-le, take-append-drop, drop_at, append_assoc, take_at}
+use Rattle.std.proofs.Common.{◌≡◌, ℕ, zero, suc, ◌+◌, ◌-◌, ◌<◌, ◌≤◌, List, [], ◌∷◌, ◌++◌, map, length, take, drop, Some, None, Option, sym, refl, ap, ◌∙◌, arith, length-append, length-drop, take-add}
+use Rattle.std.proofs.lemmas.List.{drop_all, drop-drop, drop-append-le, length-take-le}
 use Rattle.schema.specs.Lines.{onward, there}
 
 pub onward_same : {X : Type 0} (o : Option X) (g h : X → List (Option X)) → ((x : X) → o ≡ Some x → g x ≡ h x) → onward o g ≡ onward o h

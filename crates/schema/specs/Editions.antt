@@ -1,5 +1,5 @@
 -- When one dictionary is an earlier edition of another. Assumes nothing.
-use Rattle.std.specs.Prelude.{◌≡◌, ℕ, ◌≤◌, List}
+use Rattle.std.specs.Prelude.{◌≡◌, ◌≤◌, List}
 use Rattle.schema.specs.Structure.{Template, Dictionary}
 use Rattle.schema.specs.Seen.{seen}
 

@@ -1,5 +1,5 @@
 -- Types and geometry: that each type is known and each field has its place. Assumes nothing.
-use Rattle.std.specs.Prelude.{ℕ, ◌+◌, Bool, true, false, cond, ◌&&◌, List, [], ◌∷◌, Some, None, Option, nat_le}
+use Rattle.std.specs.Prelude.{ℕ, ◌+◌, Bool, true, false, ◌&&◌, List, [], ◌∷◌, Some, None, Option, nat_le}
 use Rattle.wire.specs.declared.refusal.Reason.TheVariants as reason
 use Rattle.types.specs.Kinds.{Kind, Known}
 use Rattle.schema.specs.Verdicts.{Verdict, fine, rule, ◌then◌}

@@ -2,8 +2,8 @@
 use Rattle.std.specs.Prelude.{◌≡◌, ℕ, ◌≤◌, min, List, filter, nat_le}
 use Rattle.wire.specs.Bytes.{Bytes}
 use Rattle.types.specs.Kinds.{Known}
-use Rattle.schema.specs.Verdicts.{Verdict, fine}
-use Rattle.schema.specs.Structure.{Field, Block, Template, Dictionary}
+use Rattle.schema.specs.Verdicts.{fine}
+use Rattle.schema.specs.Structure.{Block, Template, Dictionary}
 use Rattle.schema.specs.Reading.{verdict, dictionary_of}
 use Rattle.schema.specs.Writing.{dictionary_bytes}
 use Rattle.schema.specs.WellFormed.{GoodBlock, GoodTemplate, WellFormed}

@@ -1,9 +1,9 @@
 -- What a dictionary's bytes say, and the verdict on them. Assumes nothing.
-use Rattle.std.specs.Prelude.{ℕ, ◌+◌, Bool, cond, ◌&&◌, List, [], ◌∷◌, map, length, drop, ◌==◌, nat_le, slice_index}
+use Rattle.std.specs.Prelude.{ℕ, Bool, ◌&&◌, List, [], ◌∷◌, map, length, drop, ◌==◌, nat_le, slice_index}
 use Rattle.wire.specs.declared.refusal.Reason.TheVariants as reason
 use Rattle.types.specs.Kinds.{Known}
 use Rattle.schema.specs.Verdicts.{Verdict, rule, ◌then◌}
-use Rattle.schema.specs.Structure.{Field, Block, Group, Data, Template, Dictionary}
+use Rattle.schema.specs.Structure.{Field, Group, Data, Template, Dictionary}
 use Rattle.schema.specs.Lines.{Line, field, group, end, part, number_2, lines, there}
 use Rattle.schema.specs.Sections.{Section, sections}
 use Rattle.schema.specs.Shape.{sections_shape}

@@ -1,5 +1,5 @@
 -- The templates of a dictionary: bytes cut into sections, a head of eight bytes and lines. Assumes nothing.
-use Rattle.std.specs.Prelude.{ℕ, zero, suc, ◌+◌, Bool, cond, ◌&&◌, List, [], ◌∷◌, length, take, drop, Some, None, Option, nat_le}
+use Rattle.std.specs.Prelude.{ℕ, zero, suc, ◌+◌, cond, ◌&&◌, List, [], ◌∷◌, length, take, drop, Some, None, Option, nat_le}
 use Rattle.schema.specs.Lines.{number_2, onward}
 
 -- a template's head, and the bytes of its lines

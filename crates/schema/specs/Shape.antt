@@ -1,5 +1,5 @@
 -- Shape and names: what lines follow one another, and that numbers rise and tags differ. Assumes nothing.
-use Rattle.std.specs.Prelude.{ℕ, suc, ◌+◌, Bool, true, false, cond, not, ◌&&◌, ◌||◌, List, [], ◌∷◌, length, Some, None, Err, Option, ◌==◌, nat_le, nat_lt}
+use Rattle.std.specs.Prelude.{ℕ, suc, ◌+◌, Bool, true, false, not, ◌&&◌, ◌||◌, List, [], ◌∷◌, length, Some, None, Err, Option, ◌==◌, nat_le, nat_lt}
 use Rattle.wire.specs.declared.refusal.Reason.TheVariants as reason
 use Rattle.wire.specs.Refusals.{refusal}
 use Rattle.schema.specs.Verdicts.{Verdict, fine, rule, ◌then◌}

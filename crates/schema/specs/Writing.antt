@@ -2,7 +2,7 @@
 use Rattle.std.specs.Prelude.{ℕ, ◌+◌, List, [], ◌∷◌, ◌++◌, map, length}
 use Rattle.std.specs.List.{flat_map}
 use Rattle.wire.specs.Numbers.{be_bytes}
-use Rattle.schema.specs.Structure.{Field, Block, Group, Data, Template, Dictionary}
+use Rattle.schema.specs.Structure.{Group, Template, Dictionary}
 use Rattle.schema.specs.Lines.{Line, field, group, end, part}
 
 -- a line's bytes: its length, its sort, what it says

@@ -1,6 +1,5 @@
 -- What each call on a form does to the bytes of its buffer. Assumes nothing.
 use Rattle.std.specs.Prelude.{◌≡◌, ℕ, ◌+◌, ◌-◌, ◌*◌, min, true, cond, ◌&&◌, List, [], ◌∷◌, length, take, Some, None, Ok, Err, Option, Result, nat_le, nat_lt}
-use Rattle.wire.specs.declared.refusal.Reason.{Reason}
 use Rattle.wire.specs.declared.refusal.Reason.TheVariants as reason
 use Rattle.wire.specs.declared.refusal.Refusal.{Refusal}
 use Rattle.wire.specs.Numbers.{le_bytes}
@@ -13,7 +12,7 @@ use Rattle.schema.specs.Verdicts.{Verdict, rule, ◌then◌}
 use Rattle.schema.specs.Sections.{Section}
 use Rattle.schema.specs.Structure.{Block, Template, Dictionary}
 use Rattle.schema.specs.Geometry.{kind_of, section_geometry}
-use Rattle.schema.specs.Reading.{template_of, schema_of, version_of, sections_of, dictionary_of}
+use Rattle.schema.specs.Reading.{template_of, schema_of, version_of, sections_of}
 use Rattle.schema.specs.Seen.{block_length, seen_template}
 use Rattle.schema.specs.Finding.{PlacedSection, section_at}
 use Rattle.message.specs.Blocks.{block_bytes}

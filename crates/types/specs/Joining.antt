@@ -1,5 +1,5 @@
 -- Two lawful libraries joined are lawful.
-use Rattle.std.specs.Prelude.{◌≡◌, ℕ, List, Some, None, Option}
+use Rattle.std.specs.Prelude.{◌≡◌, Some, None, Option}
 use Rattle.types.specs.Kinds.{Kind, Lawful, Known, AllLawful, either, joined}
 
 one_of : (left right : Option Kind) (P : Kind → Type 0) → ((k : Kind) → left ≡ Some k → P k) → ((k : Kind) → right ≡ Some k → P k) → (k : Kind) → either left right ≡ Some k → P k

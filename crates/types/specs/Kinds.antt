@@ -1,5 +1,5 @@
 -- What a library fixes for a type, and what it owes. Assumes nothing.
-use Rattle.std.specs.Prelude.{◌≡◌, ℕ, ◌<◌, ◌≤◌, List, length, Some, None, Option}
+use Rattle.std.specs.Prelude.{◌≡◌, ℕ, ◌≤◌, List, length, Some, None, Option}
 use Rattle.wire.specs.Bytes.{Bytes}
 use Rattle.types.specs.Meanings.{Meaning, absent, Sayable}
 

@@ -1,8 +1,8 @@
 -- Numbers in bytes: reading and writing are each other's inverse, at any width.
 use Rattle.std.proofs.Common.{◌≡◌, ℕ, zero, suc, ◌+◌, ◌-◌, ◌*◌, ◌/◌, ◌%◌, ◌^◌, ◌<◌, ◌≤◌, List, [], ◌∷◌, ◌++◌, reverse, length, get_or, take, drop, set, sym, refl, ap, ◌∙◌, subst, append_assoc, lt_of_lt_of_le, arith, lit<, length-drop, length-take}
 use native.Mathlib.Nat.{pow-succ', pow-le-pow_right}
-use Rattle.std.proofs.lemmas.List.{at_drop_more, take_more, take_more_set, length-set, append-nil, take_all, reverse-append, reverse-reverse, length-reverse, length-take-le}
-use Rattle.std.proofs.ByRecursion.{All-drop, All-take, All-append, All-push}
+use Rattle.std.proofs.lemmas.List.{at_drop_more, take_more, take_more_set, length-set, append-nil, take_all, reverse-append, reverse-reverse, length-reverse}
+use Rattle.std.proofs.ByRecursion.{All-drop, All-take, All-append}
 use Rattle.wire.specs.Bytes.{Bytes}
 use Rattle.wire.specs.Numbers.{le_value, le_bytes, be_value, be_bytes}
 

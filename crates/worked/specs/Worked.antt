@@ -1,5 +1,5 @@
 -- The worked examples: a dictionary of 100 bytes, and frames under it. Assumes nothing.
-use Rattle.std.specs.Prelude.{◌≡◌, ℕ, Bool, true, false, List, [], ◌∷◌, length, replicate, Some, Ok, Err, Result}
+use Rattle.std.specs.Prelude.{◌≡◌, ℕ, Bool, true, false, List, [], ◌∷◌, replicate, Some, Ok, Err, Result}
 use Rattle.std.proofs.Math.ListN as list
 use Rattle.wire.specs.declared.refusal.Reason.TheVariants as reason
 use Rattle.wire.specs.declared.refusal.Refusal.{Refusal}
@@ -11,8 +11,8 @@ use Rattle.schema.specs.Verdicts.{fine}
 use Rattle.schema.specs.Reading.{verdict, dictionary_of}
 use Rattle.message.specs.Frames.{Contents}
 use Rattle.message.specs.Messages.{Message, frame, frame_verdict, message_of}
-use Rattle.message.specs.Lookup.{Reading, means, frame_reading}
-use Rattle.calls.specs.Calls.{Fill, set, clear, append, write, Call, begin, fill, close, by_messages, opening, filling}
+use Rattle.message.specs.Lookup.{means, frame_reading}
+use Rattle.calls.specs.Calls.{set, append, write, Call, begin, fill, close, by_messages, opening, filling}
 use Rattle.calls.specs.Runs.{frame_left, OpensUpTo}
 
 -- schema 1, version 6, one template: number 7, root block 12 with fields 11, 54, 110 and 35121 (since 5), group 78 with field 80, data 5149

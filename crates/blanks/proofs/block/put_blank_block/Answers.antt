@@ -1,4 +1,4 @@
-use Rattle.std.proofs.Common.{◌≡◌, ◌+◌, ◌-◌, ◌≤◌, length, ◌∙◌, arith}
+use Rattle.std.proofs.Common.{length, ◌∙◌, arith}
 use Rattle.schema.specs.Seen.{seen_fields}
 use Rattle.dictionary.specs.Shown.{shown_field}
 use Rattle.lines.specs.Walks.{fields_in}

@@ -1,4 +1,4 @@
-use Rattle.std.proofs.Common.{◌≡◌, ◌+◌, ◌≤◌, length, Ok, ap, ◌∙◌, arith}
+use Rattle.std.proofs.Common.{◌+◌, Ok, ap, ◌∙◌, arith}
 use Rattle.schema.specs.Geometry.{kind_of}
 use Rattle.dictionary.specs.Shown.{shown_field}
 use Rattle.blanks.proofs.Blocks.{blank_at, answered, field_put}

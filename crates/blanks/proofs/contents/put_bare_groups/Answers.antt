@@ -1,4 +1,4 @@
-use Rattle.std.proofs.Common.{◌≡◌, ◌+◌, ◌≤◌, map, length, sym, refl, ap, ◌∙◌, arith}
+use Rattle.std.proofs.Common.{◌+◌, map, refl, ap, ◌∙◌, arith}
 use Rattle.schema.specs.Seen.{seen_group, length_at}
 use Rattle.lines.specs.Walks.{groups_in, fields_in}
 use Rattle.moves.specs.Moves.{patched}

@@ -1,4 +1,4 @@
-use Rattle.std.proofs.Common.{◌≡◌, ◌+◌, ◌≤◌, map, length}
+use Rattle.std.proofs.Common.{◌≡◌, ◌+◌, map, length}
 use Rattle.schema.specs.Seen.{seen_group}
 use Rattle.lines.specs.Walks.{groups_in}
 use Rattle.moves.specs.Moves.{patched}

@@ -1,4 +1,4 @@
-use Rattle.std.proofs.Common.{◌≡◌, ◌+◌, ◌≤◌, [], ◌∷◌, length, refl, ap, ◌∙◌, arith}
+use Rattle.std.proofs.Common.{◌+◌, [], ◌∷◌, refl, ap, ◌∙◌, arith}
 use Rattle.schema.specs.Seen.{seen_parts}
 use Rattle.lines.specs.Walks.{parts_in}
 use Rattle.blanks.specs.Blanks.{bare_parts}

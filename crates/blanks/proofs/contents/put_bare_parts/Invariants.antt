@@ -1,4 +1,4 @@
-use Rattle.std.proofs.Common.{◌≡◌, ◌+◌, ◌≤◌, length}
+use Rattle.std.proofs.Common.{◌≡◌, ◌+◌, length}
 use Rattle.schema.specs.Seen.{seen_parts}
 use Rattle.lines.specs.Walks.{parts_in}
 use Rattle.moves.specs.Moves.{patched}

@@ -1,7 +1,7 @@
-use Rattle.std.proofs.Common.{◌≡◌, ◌+◌, ◌≤◌, length, sym, ap, ◌∙◌, subst, arith}
+use Rattle.std.proofs.Common.{sym, ap, ◌∙◌, subst, arith}
 use Rattle.moves.specs.Moves.{patched}
 use Rattle.message.specs.Messages.{block_view}
-use Rattle.blanks.specs.Blanks.{Fitting, template_in, block_in, blank_block, bare_groups}
+use Rattle.blanks.specs.Blanks.{Fitting, template_in, block_in, blank_block}
 use Rattle.blanks.proofs.Bare.{contents_long, contents_put}
 use Rattle.blanks.proofs.contents.put_blank_contents.Goals as goal
 

@@ -1,4 +1,4 @@
-use Rattle.std.proofs.Common.{◌≡◌, sym, refl, ap, ◌∙◌, arith}
+use Rattle.std.proofs.Common.{sym, refl, ap, ◌∙◌, arith}
 use Rattle.schema.specs.Finding.{seen_of}
 use Rattle.schema.proofs.Finding.{section_is_template}
 use Rattle.dictionary.specs.Shown.{shown_section}

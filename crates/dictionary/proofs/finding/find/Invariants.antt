@@ -1,4 +1,4 @@
-use Rattle.std.proofs.Common.{◌≡◌, ◌-◌, ◌≤◌, length, drop}
+use Rattle.std.proofs.Common.{◌≡◌, ◌-◌, length, drop}
 use Rattle.schema.specs.Lines.{there}
 use Rattle.schema.specs.Sections.{sections}
 use Rattle.schema.specs.Finding.{section_at}

@@ -1,7 +1,7 @@
 use Rattle.std.proofs.Common.{ap, ◌∙◌}
 use Rattle.schema.specs.Lines.{first_line, lines, there}
 use Rattle.dictionary.specs.Shown.{shown_line}
-use Rattle.dictionary.specs.Surveys.{gathered_from, nothing_gathered, above_from, line_judged}
+use Rattle.dictionary.specs.Surveys.{gathered_from, nothing_gathered}
 use Rattle.dictionary.proofs.Gathering.{judged}
 use Rattle.dictionary.proofs.shape.judge_line.Goals as goal
 

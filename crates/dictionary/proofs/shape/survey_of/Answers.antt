@@ -1,4 +1,4 @@
-use Rattle.std.proofs.Common.{◌+◌, ◌≤◌, refl, arith}
+use Rattle.std.proofs.Common.{refl, arith}
 use Rattle.dictionary.specs.Shown.{shown_line}
 use Rattle.dictionary.specs.Surveys.{gathered_from, gathered_past}
 use Rattle.dictionary.proofs.Walking.{line_within, fold_on, fold_stops, fold_ends}

@@ -1,9 +1,9 @@
-use Rattle.std.proofs.Common.{◌≡◌, take, Ok, sym, ap, ◌∙◌, arith}
+use Rattle.std.proofs.Common.{◌≡◌, Ok, sym, arith}
 use Rattle.std.proofs.lemmas.Bool.{ltb-true}
 use Rattle.schema.specs.Reading.{template_of}
 use Rattle.dictionary.specs.Shown.{shown_section}
 use Rattle.places.specs.Places.{group_place}
-use Rattle.places.specs.Shown.{shown_group, shown_group_place}
+use Rattle.places.specs.Shown.{shown_group}
 use Rattle.steps.proofs.Fitting.{geometry_fits, found_group_fits}
 use Rattle.filling.proofs.adding.append_entry.Goals as goal
 

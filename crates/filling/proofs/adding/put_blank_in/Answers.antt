@@ -1,4 +1,4 @@
-use Rattle.std.proofs.Common.{◌≡◌, sym, refl}
+use Rattle.std.proofs.Common.{sym, refl}
 use Rattle.message.specs.Messages.{block_view}
 use Rattle.blanks.specs.Blanks.{blank_block, block_in}
 use Rattle.blanks.proofs.Blocks.{block_long}

@@ -1,7 +1,5 @@
-use Rattle.std.proofs.Common.{◌≡◌, sym, ap, ◌∙◌}
-use Rattle.schema.specs.Verdicts.{fine}
+use Rattle.std.proofs.Common.{sym, ap, ◌∙◌}
 use Rattle.schema.specs.Geometry.{section_geometry}
-use Rattle.schema.specs.Reading.{version_of}
 use Rattle.dictionary.specs.Found.{placed_section}
 use Rattle.dictionary.specs.Shown.{shown_section}
 use Rattle.filling.proofs.Blanks.{blank_left}

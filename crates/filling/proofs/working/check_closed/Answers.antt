@@ -1,6 +1,5 @@
-use Rattle.std.proofs.Common.{◌≡◌, ◌<◌, ◌≤◌, true, take, sym, ap, ◌∙◌, arith}
+use Rattle.std.proofs.Common.{true, take, sym, ap, ◌∙◌}
 use Rattle.std.proofs.lemmas.Result.{err_from_is_err_and}
-use Rattle.std.proofs.lemmas.Bool.{le-leb, lt-leb}
 use Rattle.message.specs.Messages.{verdict_when}
 use Rattle.filling.specs.Shown.{shown_working}
 use Rattle.filling.proofs.Fronts.{refused_then, passed_then, too_long, not_too_long}

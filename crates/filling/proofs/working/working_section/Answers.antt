@@ -1,4 +1,4 @@
-use Rattle.std.proofs.Common.{◌≡◌, ℕ, ◌<◌, sym, ◌∙◌, subst}
+use Rattle.std.proofs.Common.{ℕ, ◌<◌, sym, ◌∙◌, subst}
 use Rattle.schema.specs.Reading.{version_of}
 use Rattle.filling.specs.Shown.{plain_numbers}
 use Rattle.filling.proofs.Fronts.{too_new}

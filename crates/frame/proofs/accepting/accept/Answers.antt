@@ -1,4 +1,4 @@
-use Rattle.std.proofs.Common.{◌≡◌, true, sym, refl, ◌∙◌, subst}
+use Rattle.std.proofs.Common.{true, sym, refl, ◌∙◌, subst}
 use Rattle.std.proofs.lemmas.Result.{err_from_is_err_and}
 use Rattle.schema.proofs.Exact.{passes_exactly}
 use Rattle.message.specs.Messages.{frame_verdict}

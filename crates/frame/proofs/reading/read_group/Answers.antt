@@ -1,4 +1,4 @@
-use Rattle.std.proofs.Common.{◌≡◌, ◌-◌, length, drop, ap, ◌∙◌, arith, length-drop}
+use Rattle.std.proofs.Common.{◌≡◌, ◌-◌, length, ap, ◌∙◌, arith, length-drop}
 use Rattle.lines.specs.Walks.{groups_in, group_at as group_by}
 use Rattle.frame.proofs.Readings.{group_on, group_near}
 use Rattle.frame.proofs.reading.read_group.Goals as goal

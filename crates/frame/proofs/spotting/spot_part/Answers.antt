@@ -1,4 +1,4 @@
-use Rattle.std.proofs.Common.{◌≡◌, ◌^◌, ◌<◌, length, arith, rules}
+use Rattle.std.proofs.Common.{◌^◌, ◌<◌, length, arith, rules}
 use Rattle.lines.specs.Walks.{parts_in, data_at}
 use Rattle.frame.proofs.Spots.{part_spot_on, part_near}
 use Rattle.frame.proofs.spotting.spot_part.Goals as goal

@@ -1,5 +1,5 @@
 use Rattle.std.proofs.Common.{◌<◌, sym, ap, ◌∙◌, arith}
-use Rattle.frame.specs.Spots.{shown_spot, next_entry, items_from}
+use Rattle.frame.specs.Spots.{shown_spot, items_from}
 use Rattle.frame.proofs.Onward.{as_from, entry_on, entries_on}
 use Rattle.frame.proofs.walking.step_in_entries.Goals as goal
 

@@ -1,4 +1,4 @@
-use Rattle.std.proofs.Common.{◌≡◌, ◌≤◌, length, take, ap, ◌∙◌, arith, length-take}
+use Rattle.std.proofs.Common.{length, ap, ◌∙◌, arith, length-take}
 use Rattle.judging.proofs.block.check_one.Goals as goal
 
 pub check_padding-requires : goal.check_padding-requires

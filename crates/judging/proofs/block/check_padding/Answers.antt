@@ -1,4 +1,3 @@
-use Rattle.std.proofs.Common.{◌≡◌, sym, ap, ◌∙◌, arith}
 use Rattle.judging.proofs.Padded.{padding_more, padding_refused, padding_end}
 use Rattle.judging.proofs.block.check_padding.Goals as goal
 

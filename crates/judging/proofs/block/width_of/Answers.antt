@@ -1,6 +1,3 @@
-use Rattle.std.proofs.Common.{sym, ◌∙◌, rules}
-use Rattle.schema.specs.Geometry.{kind_of, width_or_0}
-use Rattle.dictionary.specs.Shown.{shown_field}
 use Rattle.judging.proofs.Blocks.{width_known}
 use Rattle.judging.proofs.block.width_of.Goals as goal
 

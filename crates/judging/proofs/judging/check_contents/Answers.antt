@@ -1,4 +1,4 @@
-use Rattle.std.proofs.Common.{◌≡◌, ◌+◌, ◌≤◌, true, leb, length, sym, ap, ◌∙◌, arith, length-drop, rules}
+use Rattle.std.proofs.Common.{◌≡◌, ◌+◌, true, leb, length, sym, ap, ◌∙◌, arith, length-drop, rules}
 use Rattle.std.proofs.lemmas.Bool.{le-leb}
 use Rattle.wire.specs.declared.refusal.Reason.TheVariants as reason
 use Rattle.wire.specs.Refusals.{refusal}

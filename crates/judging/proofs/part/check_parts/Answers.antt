@@ -1,7 +1,7 @@
-use Rattle.std.proofs.Common.{◌≡◌, ◌+◌, ◌<◌, ◌≤◌, length, sym, refl, ap, ◌∙◌, arith, length-drop, rules}
+use Rattle.std.proofs.Common.{length, sym, ap, ◌∙◌, arith, length-drop}
 use mir.Facts.{Fits-of_lt}
 use Rattle.std.proofs.lemmas.Result.{err_from_is_err_and}
-use Rattle.judging.proofs.Parts.{part_there, parts_more, parts_refused, parts_end}
+use Rattle.judging.proofs.Parts.{part_there, parts_more, parts_refused}
 use Rattle.judging.proofs.part.check_parts.Goals as goal
 
 pub returns-in_err-n : goal.returns-in_err-n

@@ -1,4 +1,4 @@
-use Rattle.std.proofs.Common.{◌≡◌, ◌+◌, ◌-◌, length, ap, ◌∙◌, arith, length-drop}
+use Rattle.std.proofs.Common.{◌+◌, length, ap, ◌∙◌, arith, length-drop}
 use Rattle.order.proofs.making.play.Goals as goal
 
 pub loop-left-smaller : goal.loop-left-smaller

@@ -1,4 +1,4 @@
-use Rattle.std.proofs.Common.{◌≡◌, ◌<◌, ◌≤◌, min, length, ap, ◌∙◌, arith}
+use Rattle.std.proofs.Common.{◌<◌, ◌≤◌, length, arith}
 use Rattle.replay.specs.Shown.{made_calls}
 use Rattle.replay.proofs.Going.{goes_on, form_at_last, buffer_at_last, answers_at_last, keeps_the_law, as_many, at_made}
 use Rattle.replay.proofs.running.run.Goals as goal

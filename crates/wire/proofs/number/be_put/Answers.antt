@@ -1,5 +1,5 @@
-use Rattle.std.proofs.Common.{◌≡◌, reverse, length, ap, ◌∙◌}
-use Rattle.wire.specs.Numbers.{be_bytes, be_value}
+use Rattle.std.proofs.Common.{reverse, length, ap, ◌∙◌}
+use Rattle.wire.specs.Numbers.{be_value}
 use Rattle.wire.proofs.Values.{be_value_of_bytes}
 use Rattle.wire.proofs.number.be_put.Goals as goal
 

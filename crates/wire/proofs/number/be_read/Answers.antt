@@ -1,4 +1,4 @@
-use Rattle.std.proofs.Common.{◌≡◌, ◌+◌, ◌-◌, ◌*◌, ◌^◌, ◌<◌, length, get_or, take, sym, refl, ap, ◌∙◌, subst, arith}
+use Rattle.std.proofs.Common.{◌≡◌, ◌+◌, ◌^◌, ◌<◌, length, sym, ap, ◌∙◌, subst, arith}
 use mir.Facts.{Fits-of_lt}
 use Rattle.std.proofs.lemmas.List.{take_all}
 use Rattle.wire.specs.Numbers.{be_value, be_bytes}

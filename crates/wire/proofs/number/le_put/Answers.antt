@@ -1,4 +1,4 @@
-use Rattle.std.proofs.Common.{◌≡◌, length, ap, ◌∙◌, arith}
+use Rattle.std.proofs.Common.{ap, ◌∙◌, arith}
 use Rattle.std.proofs.lemmas.List.{length-set}
 use Rattle.wire.specs.Numbers.{le_bytes, le_value}
 use Rattle.wire.proofs.Values.{put_step, put_all, le_value_of_bytes}

@@ -1,4 +1,4 @@
-use Rattle.std.proofs.Common.{◌≡◌, ◌+◌, ◌-◌, ◌*◌, ◌^◌, ◌<◌, length, get_or, drop, sym, ap, ◌∙◌, subst, arith}
+use Rattle.std.proofs.Common.{◌≡◌, ◌-◌, ◌^◌, ◌<◌, length, drop, sym, ap, ◌∙◌, subst, arith}
 use mir.Facts.{Fits-of_lt}
 use Rattle.std.proofs.lemmas.List.{at_drop_all}
 use Rattle.wire.specs.Numbers.{le_value, le_bytes}

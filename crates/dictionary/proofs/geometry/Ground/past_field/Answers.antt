@@ -1,4 +1,4 @@
-use Rattle.std.proofs.Common.{◌+◌, ◌≤◌, arith}
+use Rattle.std.proofs.Common.{◌≤◌, arith}
 use mir.Facts.{Fits-of_lt}
 use Rattle.dictionary.proofs.Widths.{width_bounded}
 use Rattle.dictionary.proofs.geometry.Ground.past_field.Goals as goal

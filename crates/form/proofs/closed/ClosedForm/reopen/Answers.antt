@@ -1,4 +1,4 @@
-use Rattle.std.proofs.Common.{◌≡◌, ◌<◌, Ok, sym, ap, ◌∙◌}
+use Rattle.std.proofs.Common.{◌<◌, Ok, sym, ap, ◌∙◌}
 use Rattle.std.proofs.ByRecursion.{All-from_get_or}
 use Rattle.wire.specs.Refusals.{bind}
 use Rattle.schema.specs.Verdicts.{Verdict}

@@ -1,4 +1,4 @@
-use Rattle.std.proofs.Common.{◌≡◌, ◌<◌, sym, ap, ◌∙◌}
+use Rattle.std.proofs.Common.{◌<◌, sym, ap, ◌∙◌}
 use Rattle.std.proofs.ByRecursion.{All-from_get_or}
 use Rattle.schema.specs.Reading.{dictionary_of}
 use Rattle.calls.specs.Calls.{by_buffer, closing}

@@ -1,6 +1,5 @@
-use Rattle.std.proofs.Common.{◌≡◌, ◌≤◌, Ok, Err, Result, sym, ap, ◌∙◌, subst}
+use Rattle.std.proofs.Common.{◌≤◌, sym, ap, ◌∙◌, subst}
 use Rattle.std.proofs.lemmas.Result.{err_from_is_err_and}
-use Rattle.wire.specs.declared.refusal.Refusal.{Refusal}
 use Rattle.schema.specs.Sections.{Section}
 use Rattle.schema.specs.Reading.{template_of, dictionary_of}
 use Rattle.dictionary.specs.Shown.{shown_section}
