@@ -2,7 +2,7 @@
 use Rattle.std.proofs.Common.{◌≡◌, ℕ, ◌+◌, ◌-◌, ◌≤◌, true, List, [], ◌∷◌, ◌++◌, length, Some, None, Ok, Option, Result, sym, refl, ap, ◌∙◌, subst, append_assoc, arith, length-append}
 use native.Mathlib.Nat.{sub-zero}
 use lib.ListN.{length-replicate}
-use Rattle.std.specs.List.{AllByRecursion as All}
+use Rattle.std.specs.List.{AllByRecursion}
 use Rattle.wire.specs.declared.refusal.Reason.TheVariants as reason
 use Rattle.wire.specs.declared.refusal.Refusal.{Refusal}
 use Rattle.types.specs.Kinds.{Kind, Known, Lawful, AllLawful}
@@ -109,7 +109,7 @@ module _ (known : Known) (lawful : AllLawful known) where
 -- ---- from a well-formed dictionary
 
 module _ (known : Known) where
-  fields_fitting : (taken size : ℕ) (fs : List Field) → taken ≤ size → All (GoodField known) fs → Places known taken size fs → Fitting known taken fs size
+  fields_fitting : (taken size : ℕ) (fs : List Field) → taken ≤ size → AllByRecursion (GoodField known) fs → Places known taken size fs → Fitting known taken fs size
   fields_fitting taken size [] l g p = l
   fields_fitting taken size (f ∷ fs) l g p = (p.0, ap is_known g.0.known_type, fields_fitting (field_end known f) size fs p.1 g.1 p.2)
 

@@ -1,6 +1,6 @@
 -- Of the buffer, only the length decides what calls answer and which message they add up to.
 use Rattle.std.proofs.Common.{◌≡◌, ℕ, List, [], ◌∷◌, map, length, sym, refl, ap, ◌∙◌, subst}
-use Rattle.std.specs.List.{AllByRecursion as All}
+use Rattle.std.specs.List.{AllByRecursion}
 use Rattle.types.specs.Kinds.{Known, AllLawful}
 use Rattle.schema.specs.Reading.{dictionary_of}
 use Rattle.schema.specs.Laws.{Checked}
@@ -20,7 +20,7 @@ module _ (known : Known) (lawful : AllLawful known) (s : List ℕ) (checked : Ch
     said : answers_of (run_by_messages known s st buffer ks).turns ≡ answers_of (run_by_messages known s st buffer' ks).turns
     left : (run_by_messages known s st buffer ks).form ≡ (run_by_messages known s st buffer' ks).form
 
-  decided : (st : Form Message) (buffer buffer' : List ℕ) (ks : List Call) → All SayableCall ks → InFront known lawful s checked st buffer → InFront known lawful s checked st buffer' → length buffer' ≡ length buffer → Decided st buffer buffer' ks
+  decided : (st : Form Message) (buffer buffer' : List ℕ) (ks : List Call) → AllByRecursion SayableCall ks → InFront known lawful s checked st buffer → InFront known lawful s checked st buffer' → length buffer' ≡ length buffer → Decided st buffer buffer' ks
   decided st buffer buffer' [] y h h' long = record { said = refl; left = refl }
   decided st buffer buffer' (k ∷ ks) y h h' long =
       let o = asked_by_messages known s st buffer k in
@@ -37,7 +37,7 @@ module _ (known : Known) (lawful : AllLawful known) (s : List ℕ) (checked : Ch
         left = rest.left ∙ ap (λ x. (run_by_messages known s (message_after st x) (buffer_after known (dictionary_of s) buffer' x) ks).form) (sym same);
       }
 
-  pub the_length_alone_decides : (buffer : List ℕ) (ks : List Call) → All SayableCall ks → ((b : List ℕ) → IsWhatItsMessagesSay known s b ks) → TheLengthAloneDecides known s buffer ks
+  pub the_length_alone_decides : (buffer : List ℕ) (ks : List Call) → AllByRecursion SayableCall ks → ((b : List ℕ) → IsWhatItsMessagesSay known s b ks) → TheLengthAloneDecides known s buffer ks
   the_length_alone_decides buffer ks sayable says buffer' _ long =
       let d = decided no_form buffer buffer' ks sayable tt tt long in
       record { answers = ap answers_of (says buffer).turns ∙ d.said ∙ sym (ap answers_of (says buffer').turns); message = d.left }

@@ -1,6 +1,6 @@
 -- What a message may hold, it may hold after each call that is not refused; and it has room.
 use Rattle.std.proofs.Common.{◌≡◌, ℕ, zero, suc, ◌+◌, ◌-◌, ◌*◌, ◌≤◌, min, Bool, true, false, cond, eqb, ltb, leb, List, [], ◌∷◌, ◌++◌, map, length, take, Some, None, Ok, Err, Option, Result, refl, ap, ⊎_elim, mul-le-mul_right, arith, length-append}
-use Rattle.std.specs.List.{AllByRecursion as All}
+use Rattle.std.specs.List.{AllByRecursion}
 use Rattle.std.proofs.lemmas.Bool.{leb-true, ltb-true, cases_Bool}
 use Rattle.std.proofs.lemmas.Bool.Decides.{eqb_tells}
 use Rattle.wire.specs.declared.refusal.Reason.TheVariants as reason
@@ -25,11 +25,11 @@ use Rattle.calls.proofs.Outcomes.{Gives, gives_bind, gives_weaker, gives_rule, n
 
 -- the blank of each field has a pattern
 abbrev pub BlankSlots : List Slot → Type 0
-BlankSlots fs = All (λ f. HasPattern f.kind (blank_meaning f.kind)) fs
+BlankSlots fs = AllByRecursion (λ f. HasPattern f.kind (blank_meaning f.kind)) fs
 
 pub record BlankView (v : View) : Type 0 where
   pub root : BlankSlots v.root.slots
-  pub groups : All (λ g. BlankSlots g.block.slots) v.groups
+  pub groups : AllByRecursion (λ g. BlankSlots g.block.slots) v.groups
 
 blank_filled : (fs : List Slot) → BlankSlots fs → Filled fs (map (λ f. blank_meaning f.kind) fs)
 blank_filled [] h = tt
@@ -133,7 +133,7 @@ pub record Changes (tag : ℕ) (gs : List GroupView) (ess : List (List (List Mea
   pub put : (h : GroupView → List (List Meaning) → List (List Meaning)) → length (h g.group g.entries) ≤ 254 → Entries false g.group.block (h g.group g.entries) → Groups false gs (with_entries h tag gs ess)
   pub less : (h : GroupView → List (List Meaning) → List (List Meaning)) → length (h g.group g.entries) ≤ length g.entries → groups_size gs (with_entries h tag gs ess) ≤ groups_size gs ess
 
-group_changes : (p tag : ℕ) (gs : List GroupView) (ess : List (List (List Meaning))) → All (λ g. BlankSlots g.block.slots) gs → Groups false gs ess → Gives (Changes tag gs ess) (group_in p gs ess tag)
+group_changes : (p tag : ℕ) (gs : List GroupView) (ess : List (List (List Meaning))) → AllByRecursion (λ g. BlankSlots g.block.slots) gs → Groups false gs ess → Gives (Changes tag gs ess) (group_in p gs ess tag)
 group_changes p tag [] ess b k = not_found
 group_changes p tag (g ∷ gs) [] b k = not_found
 group_changes p tag (g ∷ gs) (es ∷ ess) b k =

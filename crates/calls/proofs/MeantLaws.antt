@@ -1,6 +1,6 @@
 -- What each call does to a message: proofs of what is said by group, entry and tag.
 use Rattle.std.proofs.Common.{◌≡◌, ℕ, zero, suc, ◌+◌, ◌-◌, ◌*◌, ◌<◌, Bool, true, false, cond, eqb, ltb, leb, List, [], ◌∷◌, ◌++◌, map, length, take, Some, None, Ok, Err, Option, Result, sym, refl, ap, ◌∙◌, subst, ⊎_elim, arith, length-append}
-use Rattle.std.specs.List.{AllByRecursion as All}
+use Rattle.std.specs.List.{AllByRecursion}
 use Rattle.std.proofs.lemmas.Bool.{cases_Bool, ltb-true, lt-ltb, eq-eqb, ne_eqb}
 use Rattle.std.proofs.lemmas.Bool.Decides.{eqb_tells}
 use Rattle.wire.specs.declared.refusal.Reason.{Reason}
@@ -391,7 +391,7 @@ no_entries group b gs e = is_empty gs ∙ ap empty_of e
         (eqb_tells g.tag group)
 
 -- one data more in front
-no_bytes_behind : (d : DataView) (ds es : List DataView) → All (λ e. had {X = List ℕ} (λ d. d.tag) ds (map (λ _. []) ds) e.tag ≡ Some []) es → All (λ e. had {X = List ℕ} (λ d. d.tag) (d ∷ ds) (map (λ _. []) (d ∷ ds)) e.tag ≡ Some []) es
+no_bytes_behind : (d : DataView) (ds es : List DataView) → AllByRecursion (λ e. had {X = List ℕ} (λ d. d.tag) ds (map (λ _. []) ds) e.tag ≡ Some []) es → AllByRecursion (λ e. had {X = List ℕ} (λ d. d.tag) (d ∷ ds) (map (λ _. []) (d ∷ ds)) e.tag ≡ Some []) es
 no_bytes_behind d ds [] k = tt
 no_bytes_behind d ds (e ∷ es) k = (
   ⊎_elim
@@ -401,7 +401,7 @@ no_bytes_behind d ds (e ∷ es) k = (
   no_bytes_behind d ds es k.1,
 )
 
-no_bytes : (ds : List DataView) → All (λ e. had {X = List ℕ} (λ d. d.tag) ds (map (λ _. []) ds) e.tag ≡ Some []) ds
+no_bytes : (ds : List DataView) → AllByRecursion (λ e. had {X = List ℕ} (λ d. d.tag) ds (map (λ _. []) ds) e.tag ≡ Some []) ds
 no_bytes [] = tt
 no_bytes (d ∷ ds) = (let same = eq-eqb d.tag d.tag refl in rw same refl, no_bytes_behind d ds ds (no_bytes ds))
 

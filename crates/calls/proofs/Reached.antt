@@ -1,6 +1,6 @@
 -- Every message that closes is made by a list of calls, on every buffer that has room for its frame: its form is opened, filled in call by call, and closed.
 use Rattle.std.proofs.Common.{◌≡◌, ℕ, ◌^◌, ◌<◌, ◌≤◌, min, true, leb, List, [], ◌∷◌, length, drop, Some, Ok, refl, ap, ◌∙◌, subst, arith, length-append, length-drop}
-use Rattle.std.specs.List.{AllByRecursion as All}
+use Rattle.std.specs.List.{AllByRecursion}
 use Rattle.std.proofs.lemmas.Bool.{le-leb, and_from}
 use Rattle.wire.specs.declared.refusal.Reason.TheVariants as reason
 use Rattle.wire.specs.Refusals.{refusal, bind}
@@ -35,7 +35,7 @@ abbrev calls_of : {v : View} {c after : Contents} → Steps (FillStep v) c after
 calls_of over = close ∷ []
 calls_of (more s w) = fill s.call ∷ calls_of w
 
-calls_sayable : {v : View} {c after : Contents} (w : Steps (FillStep v) c after) → All SayableCall (calls_of w)
+calls_sayable : {v : View} {c after : Contents} (w : Steps (FillStep v) c after) → AllByRecursion SayableCall (calls_of w)
 calls_sayable over = (tt, tt)
 calls_sayable (more s w) = (s.sayable, calls_sayable w)
 

@@ -1,6 +1,6 @@
 -- From the contents of a new message to any contents that a message may hold, by calls that are all accepted where the whole has room.
 use Rattle.std.proofs.Common.{◌≡◌, ℕ, ◌+◌, ◌*◌, ◌^◌, ◌<◌, ◌≤◌, min, Bool, true, false, cond, eqb, ltb, leb, List, [], ◌∷◌, ◌++◌, map, length, Ok, Err, Result, refl, ap, ◌∙◌, arith, length-append}
-use Rattle.std.specs.List.{AllByRecursion as All}
+use Rattle.std.specs.List.{AllByRecursion}
 use Rattle.std.proofs.lemmas.Bool.{le-leb, lt-ltb, ne_eqb}
 use Rattle.wire.specs.declared.refusal.Reason.TheVariants as reason
 use Rattle.wire.specs.declared.refusal.Refusal.{Refusal}
@@ -147,11 +147,11 @@ part_step v ms ess xs after s =
 
 -- a template of good fields, groups and data that differ in their tags
 pub record GoodView (v : View) : Type 0 where
-  pub root : All GoodSlot v.root.slots
+  pub root : AllByRecursion GoodSlot v.root.slots
   pub root_tags : Distinct (map (λ f. f.tag) v.root.slots)
-  pub groups : All GoodGroupView v.groups
+  pub groups : AllByRecursion GoodGroupView v.groups
   pub group_tags : Distinct (map (λ g. g.tag) v.groups)
-  pub parts : All (λ d. d.tag < 2 ^ 32) v.parts
+  pub parts : AllByRecursion (λ d. d.tag < 2 ^ 32) v.parts
   pub part_tags : Distinct (map (λ d. d.tag) v.parts)
 
 -- root, groups and data, one after the other

@@ -1,6 +1,6 @@
 -- From the blank fields of a block to meanings that have patterns, by setting one field after the other.
 use Rattle.std.proofs.Common.{◌≡◌, ℕ, ◌+◌, ◌^◌, ◌<◌, ◌≤◌, true, false, eqb, ◌⊎◌, List, [], ◌∷◌, map, length, Some, None, Ok, Option, sym, refl, ap, ◌∙◌, subst, inl, inr, ⊎_elim, arith, length-append}
-use Rattle.std.specs.List.{AllByRecursion as All}
+use Rattle.std.specs.List.{AllByRecursion}
 use Rattle.std.proofs.lemmas.Bool.{eq-eqb, ne_eqb}
 use Rattle.types.specs.Meanings.{Meaning, absent, unsigned, signed, decimal, text, investor, Sayable}
 use Rattle.types.specs.Kinds.{Kind, Lawful}
@@ -67,7 +67,7 @@ pub record OneSet (fs : List Slot) (ms after : List Meaning) : Type 0 where
   pub leaves : with_meaning slot.tag value fs ms ≡ after
   pub grows : (at size : ℕ) → length (bytes_from at fs size ms) ≤ length (bytes_from at fs size after)
   -- its tag is one of the block's
-  pub among : (t : ℕ) → All (λ u. u ≡ t → ⊥) (map (λ f. f.tag) fs) → slot.tag ≡ t → ⊥
+  pub among : (t : ℕ) → AllByRecursion (λ u. u ≡ t → ⊥) (map (λ f. f.tag) fs) → slot.tag ≡ t → ⊥
 
 -- the first field is set
 set_first : (f : Slot) (fs : List Slot) (x m : Meaning) (ms : List Meaning) → GoodSlot f → HasPattern f.kind x → HasPattern f.kind m → is_absent m ≡ false → OneSet (f ∷ fs) (x ∷ ms) (m ∷ ms)
@@ -89,7 +89,7 @@ set_first f fs x m ms good old new value =
     }
 
 -- a field behind the first is set
-set_behind : (f : Slot) (fs : List Slot) (x : Meaning) (ms after : List Meaning) → All (λ u. u ≡ f.tag → ⊥) (map (λ g. g.tag) fs) → OneSet fs ms after → OneSet (f ∷ fs) (x ∷ ms) (x ∷ after)
+set_behind : (f : Slot) (fs : List Slot) (x : Meaning) (ms after : List Meaning) → AllByRecursion (λ u. u ≡ f.tag → ⊥) (map (λ g. g.tag) fs) → OneSet fs ms after → OneSet (f ∷ fs) (x ∷ ms) (x ∷ after)
 set_behind f fs x ms after differs s =
     let other : eqb f.tag s.slot.tag ≡ false = ne_eqb f.tag s.slot.tag (λ e. s.among f.tag differs (sym e)) in
     record {
@@ -114,7 +114,7 @@ set_or_left f fs m ms good h = ⊎_elim
     (λ e. more (set_first f fs (blank_meaning f.kind) m ms good (blank_has_pattern f.kind good.0) h e) over)
     (absent_or_value m)
 
-pub fields_reached : (fs : List Slot) (ms : List Meaning) → All GoodSlot fs → Distinct (map (λ f. f.tag) fs) → Filled fs ms → Steps (OneSet fs) (map (λ f. blank_meaning f.kind) fs) ms
+pub fields_reached : (fs : List Slot) (ms : List Meaning) → AllByRecursion GoodSlot fs → Distinct (map (λ f. f.tag) fs) → Filled fs ms → Steps (OneSet fs) (map (λ f. blank_meaning f.kind) fs) ms
 fields_reached [] [] good d k = over
 fields_reached [] (m ∷ ms) good d k = absurd k
 fields_reached (f ∷ fs) [] good d k = absurd k

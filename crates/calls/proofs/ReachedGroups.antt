@@ -1,6 +1,6 @@
 -- From groups without entries to entries whose meanings have patterns, by appending one entry after the other and setting its fields.
 use Rattle.std.proofs.Common.{◌≡◌, ℕ, ◌+◌, ◌^◌, ◌<◌, ◌≤◌, true, false, eqb, List, [], ◌∷◌, ◌++◌, map, length, Ok, sym, refl, ap, subst, append_assoc, append-nil, arith, length-append}
-use Rattle.std.specs.List.{AllByRecursion as All}
+use Rattle.std.specs.List.{AllByRecursion}
 use Rattle.std.proofs.lemmas.Bool.{eq-eqb, ne_eqb}
 use Rattle.types.specs.Meanings.{Meaning}
 use Rattle.schema.specs.WellFormed.{Distinct}
@@ -30,7 +30,7 @@ module _ (b : BlockView) where
       let g = s.grows 0 b.size in
       omega arith
 
-  module _ (good : All GoodSlot b.slots) (d : Distinct (map (λ f. f.tag) b.slots)) where
+  module _ (good : AllByRecursion GoodSlot b.slots) (d : Distinct (map (λ f. f.tag) b.slots)) where
     entry_reached : (es : List (List Meaning)) (ms : List Meaning) → length es < 254 → Entries true b (ms ∷ []) → Steps (EntryStep b) es (es ++ (ms ∷ []))
     entry_reached es ms l e =
         more (appends es l) (steps_within (λ xs. es ++ (xs ∷ [])) (λ x y s. sets es x y l s) (fields_reached b.slots ms good d e.0.0))
@@ -52,7 +52,7 @@ pub record GroupStands (gs : List GroupView) (g : GroupView) (put : List (List M
   pub changed : (h : GroupView → List (List Meaning) → List (List Meaning)) (es : List (List Meaning)) → with_entries h g.tag gs (put es) ≡ put (h g es)
   pub grows : (es after : List (List Meaning)) → length (group_bytes g es) ≤ length (group_bytes g after) → length (groups_bytes gs (put es)) ≤ length (groups_bytes gs (put after))
   -- its tag is one of the groups'
-  pub among : (t : ℕ) → All (λ u. u ≡ t → ⊥) (map (λ h. h.tag) gs) → g.tag ≡ t → ⊥
+  pub among : (t : ℕ) → AllByRecursion (λ u. u ≡ t → ⊥) (map (λ h. h.tag) gs) → g.tag ≡ t → ⊥
 
 stands_first : (g : GroupView) (gs : List GroupView) (ess : List (List (List Meaning))) → GroupStands (g ∷ gs) g (λ es. es ∷ ess)
 stands_first g gs ess =
@@ -65,7 +65,7 @@ stands_first g gs ess =
       among = λ t all e. all.0 e;
     }
 
-stands_behind : (f : GroupView) (fs : List (List Meaning)) (gs : List GroupView) (g : GroupView) (put : List (List Meaning) → List (List (List Meaning))) → All (λ u. u ≡ f.tag → ⊥) (map (λ h. h.tag) gs) → GroupStands gs g put → GroupStands (f ∷ gs) g (λ es. fs ∷ put es)
+stands_behind : (f : GroupView) (fs : List (List Meaning)) (gs : List GroupView) (g : GroupView) (put : List (List Meaning) → List (List (List Meaning))) → AllByRecursion (λ u. u ≡ f.tag → ⊥) (map (λ h. h.tag) gs) → GroupStands gs g put → GroupStands (f ∷ gs) g (λ es. fs ∷ put es)
 stands_behind f fs gs g put differs s =
     let other : eqb f.tag g.tag ≡ false = ne_eqb f.tag g.tag (λ e. s.among f.tag differs (sym e)) in
     record {
@@ -84,12 +84,12 @@ pub data GroupStep (gs : List GroupView) : List (List (List Meaning)) → List (
 
 -- a group whose tag can be said, and whose fields are good and differ in their tags
 abbrev pub GoodGroupView : GroupView → Type 0
-GoodGroupView g = (g.tag < 2 ^ 32) × All GoodSlot g.block.slots × Distinct (map (λ f. f.tag) g.block.slots)
+GoodGroupView g = (g.tag < 2 ^ 32) × AllByRecursion GoodSlot g.block.slots × Distinct (map (λ f. f.tag) g.block.slots)
 
-group_behind : (f : GroupView) (fs : List (List Meaning)) (gs : List GroupView) → All (λ u. u ≡ f.tag → ⊥) (map (λ h. h.tag) gs) → (ess after : List (List (List Meaning))) → GroupStep gs ess after → GroupStep (f ∷ gs) (fs ∷ ess) (fs ∷ after)
+group_behind : (f : GroupView) (fs : List (List Meaning)) (gs : List GroupView) → AllByRecursion (λ u. u ≡ f.tag → ⊥) (map (λ h. h.tag) gs) → (ess after : List (List (List Meaning))) → GroupStep gs ess after → GroupStep (f ∷ gs) (fs ∷ ess) (fs ∷ after)
 group_behind f fs gs differs _ _ (in_group g put es after fits inner stands s) = in_group g (λ x. fs ∷ put x) es after fits inner (stands_behind f fs gs g put differs stands) s
 
-pub groups_reached : (gs : List GroupView) (ess : List (List (List Meaning))) → All GoodGroupView gs → Distinct (map (λ g. g.tag) gs) → Groups true gs ess → Steps (GroupStep gs) (map (λ _. []) gs) ess
+pub groups_reached : (gs : List GroupView) (ess : List (List (List Meaning))) → AllByRecursion GoodGroupView gs → Distinct (map (λ g. g.tag) gs) → Groups true gs ess → Steps (GroupStep gs) (map (λ _. []) gs) ess
 groups_reached [] [] good d k = over
 groups_reached [] (es ∷ ess) good d k = absurd k
 groups_reached (g ∷ gs) [] good d k = absurd k

@@ -1,6 +1,6 @@
 -- From empty data to their bytes, by writing one after the other.
 use Rattle.std.proofs.Common.{◌≡◌, ℕ, ◌+◌, ◌^◌, ◌<◌, ◌≤◌, true, false, eqb, List, [], ◌∷◌, map, length, Ok, sym, refl, ap, ◌∙◌, arith, length-append}
-use Rattle.std.specs.List.{AllByRecursion as All}
+use Rattle.std.specs.List.{AllByRecursion}
 use Rattle.std.proofs.lemmas.Bool.{eq-eqb, ne_eqb}
 use Rattle.wire.specs.Bytes.{Bytes}
 use Rattle.wire.specs.Numbers.{le_bytes}
@@ -23,7 +23,7 @@ pub record OneWrite (ds : List DataView) (xs after : List (List ℕ)) : Type 0 w
   pub leaves : with_part part.tag new ds xs ≡ after
   pub grows : length (parts_bytes ds xs) ≤ length (parts_bytes ds after)
   -- its tag is one of the data's
-  pub among : (t : ℕ) → All (λ u. u ≡ t → ⊥) (map (λ d. d.tag) ds) → part.tag ≡ t → ⊥
+  pub among : (t : ℕ) → AllByRecursion (λ u. u ≡ t → ⊥) (map (λ d. d.tag) ds) → part.tag ≡ t → ⊥
 
 part_long : (d : DataView) (x : List ℕ) → length (part_bytes d x) ≡ d.prefix + length x
 part_long d x = length-append (le_bytes d.prefix (length x)) x ∙ ap (λ n. n + length x) (length_le_bytes d.prefix (length x))
@@ -49,7 +49,7 @@ write_first d ds x xs fits short bytes =
     }
 
 -- a data behind the first is written
-write_behind : (d : DataView) (ds : List DataView) (x : List ℕ) (xs after : List (List ℕ)) → All (λ u. u ≡ d.tag → ⊥) (map (λ h. h.tag) ds) → OneWrite ds xs after → OneWrite (d ∷ ds) (x ∷ xs) (x ∷ after)
+write_behind : (d : DataView) (ds : List DataView) (x : List ℕ) (xs after : List (List ℕ)) → AllByRecursion (λ u. u ≡ d.tag → ⊥) (map (λ h. h.tag) ds) → OneWrite ds xs after → OneWrite (d ∷ ds) (x ∷ xs) (x ∷ after)
 write_behind d ds x xs after differs s =
     let other : eqb d.tag s.part.tag ≡ false = ne_eqb d.tag s.part.tag (λ e. s.among d.tag differs (sym e)) in
     let l = s.grows in
@@ -67,7 +67,7 @@ write_behind d ds x xs after differs s =
       among = λ t all e. s.among t all.1 e;
     }
 
-pub parts_reached : (ds : List DataView) (xs : List (List ℕ)) → All (λ d. d.tag < 2 ^ 32) ds → Distinct (map (λ d. d.tag) ds) → Parts ds xs → Steps (OneWrite ds) (map (λ _. []) ds) xs
+pub parts_reached : (ds : List DataView) (xs : List (List ℕ)) → AllByRecursion (λ d. d.tag < 2 ^ 32) ds → Distinct (map (λ d. d.tag) ds) → Parts ds xs → Steps (OneWrite ds) (map (λ _. []) ds) xs
 parts_reached [] [] good d k = over
 parts_reached [] (x ∷ xs) good d k = absurd k
 parts_reached (h ∷ ds) [] good d k = absurd k

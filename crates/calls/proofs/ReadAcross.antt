@@ -1,6 +1,6 @@
 -- What an edition reads in the closed frames of another: what the message has there by the lines of the edition that it was written under.
 use Rattle.std.proofs.Common.{◌≡◌, ℕ, ◌<◌, ◌≤◌, min, cond, eqb, ◌⊎◌, List, [], ◌∷◌, ◌++◌, map, length, get_or, Some, None, Ok, Result, sym, refl, ap, ◌∙◌, subst, ap₂, inl, ⊎_elim, arith}
-use Rattle.std.specs.List.{AllByRecursion as All}
+use Rattle.std.specs.List.{AllByRecursion}
 use Rattle.std.proofs.ByRecursion.{All-weaker}
 use Rattle.std.proofs.lemmas.Bool.{eq-eqb, ne_eqb, cases_lt}
 use Rattle.wire.specs.declared.refusal.Refusal.{Refusal}
@@ -30,7 +30,7 @@ distinct_right : (xs ys : List ℕ) → Distinct (xs ++ ys) → Distinct ys
 distinct_right [] ys h = h
 distinct_right (x ∷ xs) ys h = distinct_right xs ys h.1
 
-all_left : {X : Type 0} (P : X → Type 0) (xs ys : List X) → All P (xs ++ ys) → All P xs
+all_left : {X : Type 0} (P : X → Type 0) (xs ys : List X) → AllByRecursion P (xs ++ ys) → AllByRecursion P xs
 all_left P [] ys h = tt
 all_left P (x ∷ xs) ys h = (h.0, all_left P xs ys h.1)
 
@@ -60,7 +60,7 @@ without_entries [] group entry tag = refl
 without_entries (g ∷ gs) group entry tag = refl
 
 -- groups with other tags behind one more group: without entries, and with them
-behind_none : (g : Group) (gs ks : List Group) → All (λ u. u ≡ g.tag → ⊥) (map (λ g. g.tag) ks) → All (GroupRead gs []) ks → All (GroupRead (g ∷ gs) []) ks
+behind_none : (g : Group) (gs ks : List Group) → AllByRecursion (λ u. u ≡ g.tag → ⊥) (map (λ g. g.tag) ks) → AllByRecursion (GroupRead gs []) ks → AllByRecursion (GroupRead (g ∷ gs) []) ks
 behind_none g gs [] d h = tt
 behind_none g gs (k ∷ ks) d h = (
   record {
@@ -72,7 +72,7 @@ behind_none g gs (k ∷ ks) d h = (
   behind_none g gs ks d.1 h.1,
 )
 
-behind_some : (g : Group) (es : List (List Meaning)) (gs : List Group) (ess : List (List (List Meaning))) (ks : List Group) → All (λ u. u ≡ g.tag → ⊥) (map (λ g. g.tag) ks) → All (GroupRead gs ess) ks → All (GroupRead (g ∷ gs) (es ∷ ess)) ks
+behind_some : (g : Group) (es : List (List Meaning)) (gs : List Group) (ess : List (List (List Meaning))) (ks : List Group) → AllByRecursion (λ u. u ≡ g.tag → ⊥) (map (λ g. g.tag) ks) → AllByRecursion (GroupRead gs ess) ks → AllByRecursion (GroupRead (g ∷ gs) (es ∷ ess)) ks
 behind_some g es gs ess [] d h = tt
 behind_some g es gs ess (k ∷ ks) d h =
     let other = ne_eqb g.tag k.tag (λ e. d.0 (sym e)) in (
@@ -85,7 +85,7 @@ behind_some g es gs ess (k ∷ ks) d h =
       behind_some g es gs ess ks d.1 h.1,
     )
 
-each_group_reads : (gs : List Group) (ess : List (List (List Meaning))) → Distinct (map (λ g. g.tag) gs) → All (GroupRead gs ess) gs
+each_group_reads : (gs : List Group) (ess : List (List (List Meaning))) → Distinct (map (λ g. g.tag) gs) → AllByRecursion (GroupRead gs ess) gs
 each_group_reads [] ess d = tt
 each_group_reads (g ∷ gs) [] d = (
   record { entries = []; had = rw (eq-eqb g.tag g.tag refl); not_root = d.0.0; reads = λ entry tag. refl },
@@ -159,7 +159,7 @@ module _ (known : Known) (writer reader : List ℕ) (m : Message) (bs : List ℕ
   as_many g h = ap count_of (same g.tag ∙ h.had)
 
   entry_field : (g : Group) → GroupRead t.groups m.contents.groups g → (entry : ℕ) → entry < entries_had w.groups m g.tag →
-      All (λ f. frame_reading known reader bs g.tag entry f.tag ≡ Ok (had_or (message_reading (dictionary_of writer) m g.tag entry f.tag) (means absent))) g.block.fields
+      AllByRecursion (λ f. frame_reading known reader bs g.tag entry f.tag ≡ Ok (had_or (message_reading (dictionary_of writer) m g.tag entry f.tag) (means absent))) g.block.fields
   entry_field g h entry l =
       let fs = g.block.fields in
       let ms = get_or h.entries entry [] in

@@ -1,6 +1,6 @@
 -- A run is what its messages say; frames are equal exactly when messages are; what calls leave closed closes, and is accepted.
 use Rattle.std.proofs.Common.{◌≡◌, ℕ, ◌≤◌, true, List, length, Some, None, sym, refl, ap, ◌∙◌, subst, arith}
-use Rattle.std.specs.List.{AllByRecursion as All}
+use Rattle.std.specs.List.{AllByRecursion}
 use Rattle.types.specs.Kinds.{Known, AllLawful}
 use Rattle.schema.specs.Verdicts.{fine}
 use Rattle.schema.specs.Reading.{dictionary_of}
@@ -15,7 +15,7 @@ use Rattle.calls.specs.Laws.{IsWhatItsMessagesSay, FramesEqualExactlyWhenMessage
 use Rattle.calls.proofs.Runs.{OfThisForm, Begins, InFront, Agrees, agrees}
 
 module _ (known : Known) (lawful : AllLawful known) (s : List ℕ) (checked : Checked known s) where
-  module _ (buffer : List ℕ) (ks : List Call) (sayable : All SayableCall ks) where
+  module _ (buffer : List ℕ) (ks : List Call) (sayable : AllByRecursion SayableCall ks) where
     whole : Agrees known lawful s checked no_form buffer ks
     whole = agrees known lawful s checked no_form buffer ks sayable tt
 
@@ -48,8 +48,8 @@ module _ (known : Known) (lawful : AllLawful known) (s : List ℕ) (checked : Ch
       turns = same_turns;
       buffer_left = same_buffer;
       form_left = same_form;
-      never_another_form = subst (All OfThisForm) (sym same_turns) whole.of_this_form;
-      same_length = subst (All (λ t. length t.left ≡ length buffer)) (sym same_turns) whole.as_long;
+      never_another_form = subst (AllByRecursion OfThisForm) (sym same_turns) whole.of_this_form;
+      same_length = subst (AllByRecursion (λ t. length t.left ≡ length buffer)) (sym same_turns) whole.as_long;
       open_begins = λ m e. begins_left m (front_left (opened m) e).1;
       closed_begins = λ m e. begins_left m (front_left (closed m) e).1;
       open_stands = λ m e. (front_left (opened m) e).0.stands;
@@ -80,7 +80,7 @@ module _ (known : Known) (lawful : AllLawful known) (s : List ℕ) (checked : Ch
   carries : FramesCarryMessages true known s
   carries = carried known lawful (passes_exactly known) true s checked
 
-  pub frames_equal_exactly : (buffer : List ℕ) (ks : List Call) → All SayableCall ks → FramesEqualExactlyWhenMessagesAre known s buffer ks
+  pub frames_equal_exactly : (buffer : List ℕ) (ks : List Call) → AllByRecursion SayableCall ks → FramesEqualExactlyWhenMessagesAre known s buffer ks
   frames_equal_exactly buffer ks sayable buffer' ks' bytes' sayable' m m' e e' =
       let f = frame_of_closed buffer ks sayable m e in
       let f' = frame_of_closed buffer' ks' sayable' m' e' in

@@ -1,6 +1,6 @@
 -- From no form on, the buffer begins with the frame of the message that the calls add up to, so that each call finds that message.
 use Rattle.std.proofs.Common.{◌≡◌, ℕ, ◌≤◌, min, Bool, true, false, cond, leb, List, [], ◌∷◌, ◌++◌, map, length, take, drop, Some, None, Ok, Err, Option, sym, refl, ap, ◌∙◌, subst, arith, length-append, length-drop}
-use Rattle.std.specs.List.{AllByRecursion as All}
+use Rattle.std.specs.List.{AllByRecursion}
 use Rattle.std.proofs.lemmas.List.{take_at, take-append-drop}
 use Rattle.std.proofs.ByRecursion.{All-weaker}
 use Rattle.std.proofs.lemmas.Bool.{leb-true, le-leb, and_parts, and_from}
@@ -32,14 +32,14 @@ use Rattle.calls.proofs.Kept.{BlankSlots, BlankView, Roomy, fill_kept, blank_kep
 -- ---- blanks of a template that is found
 
 module _ (known : Known) (lawful : AllLawful known) where
-  slots_blank : (fs : List Field) → All (GoodField known) fs → BlankSlots (map (slot_of known) fs)
+  slots_blank : (fs : List Field) → AllByRecursion (GoodField known) fs → BlankSlots (map (slot_of known) fs)
   slots_blank [] g = tt
   slots_blank (f ∷ fs) g =
       let is = (lawful f.type f.argument g.0.kind g.0.known_type).blank_is in
       let of_kind : HasPattern (Some g.0.kind) (blank_meaning (Some g.0.kind)) = rw is in
       (subst (λ k. HasPattern k (blank_meaning k)) (sym g.0.known_type) of_kind, slots_blank fs g.1)
 
-  groups_blank : (version : ℕ) (gs : List Group) → All (GoodGroup known version) gs → All (λ g. BlankSlots g.block.slots) (map (group_view known) gs)
+  groups_blank : (version : ℕ) (gs : List Group) → AllByRecursion (GoodGroup known version) gs → AllByRecursion (λ g. BlankSlots g.block.slots) (map (group_view known) gs)
   groups_blank version [] h = tt
   groups_blank version (g ∷ gs) h = (slots_blank g.block.fields h.0.block.fields, groups_blank version gs h.1)
 
@@ -249,11 +249,11 @@ module _ (known : Known) (lawful : AllLawful known) (s : List ℕ) (checked : Ch
 
   pub record Agrees (st : Form Message) (buffer : List ℕ) (ks : List Call) : Type 0 where
     pub same : run_by_buffer known s (form_of known (dictionary_of s) st) buffer ks ≡ numbered (run_by_messages known s st buffer ks)
-    pub of_this_form : All OfThisForm (run_by_messages known s st buffer ks).turns
-    pub as_long : All (λ t. length t.left ≡ length buffer) (run_by_messages known s st buffer ks).turns
+    pub of_this_form : AllByRecursion OfThisForm (run_by_messages known s st buffer ks).turns
+    pub as_long : AllByRecursion (λ t. length t.left ≡ length buffer) (run_by_messages known s st buffer ks).turns
     pub in_front : InFront (run_by_messages known s st buffer ks).form (run_by_messages known s st buffer ks).buffer
 
-  pub agrees : (st : Form Message) (buffer : List ℕ) (ks : List Call) → All SayableCall ks → InFront st buffer → Agrees st buffer ks
+  pub agrees : (st : Form Message) (buffer : List ℕ) (ks : List Call) → AllByRecursion SayableCall ks → InFront st buffer → Agrees st buffer ks
   agrees st buffer [] y h = record { same = refl; of_this_form = tt; as_long = tt; in_front = h }
   agrees st buffer (k ∷ ks) y h =
       let o = asked_by_messages known s st buffer k in

@@ -1,6 +1,6 @@
 -- A template whose types and geometry are right is sound at every version, whatever else the bytes of its dictionary are.
 use Rattle.std.proofs.Common.{◌≡◌, ℕ, zero, suc, ◌+◌, ◌^◌, ◌≤◌, true, ◌&&◌, eqb, leb, List, [], ◌∷◌, map, length, get_or, take, drop, Some, None, Option, sym, refl, ap, subst, arith}
-use Rattle.std.specs.List.{AllByRecursion as All}
+use Rattle.std.specs.List.{AllByRecursion}
 use Rattle.std.proofs.lemmas.Bool.{leb-true, and_parts, cond_both}
 use Rattle.types.specs.Kinds.{Kind, Lawful, Known, AllLawful}
 use Rattle.schema.specs.Verdicts.{fine}
@@ -31,12 +31,12 @@ pub record LawfulKind (k : Option Kind) : Type 0 where
 
 -- each field of a block has such a type
 abbrev pub LawfulSlots : List Slot → Type 0
-LawfulSlots fs = All (λ f. LawfulKind f.kind) fs
+LawfulSlots fs = AllByRecursion (λ f. LawfulKind f.kind) fs
 
 -- each field of the root and of the groups has such a type
 pub record LawfulView (v : View) : Type 0 where
   pub root : LawfulSlots v.root.slots
-  pub groups : All (λ g. LawfulSlots g.block.slots) v.groups
+  pub groups : AllByRecursion (λ g. LawfulSlots g.block.slots) v.groups
 
 -- ---- data that were read from bytes have a length of one byte
 
@@ -68,28 +68,28 @@ first_line_one s =
     (λ _. line_of_one (get_or s 0 0) (get_or s 1 0) (take (get_or s 0 0) s))
     (λ _. tt)
 
-onward_one : (o : Option Line) (go : Line → List (Option Line)) → OneByteLine o → ((l : Line) → All OneByte (parts_of (there (go l)))) → All OneByte (parts_of (there (onward o go)))
+onward_one : (o : Option Line) (go : Line → List (Option Line)) → OneByteLine o → ((l : Line) → AllByRecursion OneByte (parts_of (there (go l)))) → AllByRecursion OneByte (parts_of (there (onward o go)))
 onward_one None go h k = tt
 onward_one (Some (field f)) go h k = k (field f)
 onward_one (Some (group tag size)) go h k = k (group tag size)
 onward_one (Some end) go h k = k end
 onward_one (Some (part d)) go h k = (h, k (part d))
 
-lines_from_one : (n : ℕ) (s : List ℕ) → All OneByte (parts_of (there (lines_from n s)))
+lines_from_one : (n : ℕ) (s : List ℕ) → AllByRecursion OneByte (parts_of (there (lines_from n s)))
 lines_from_one zero s = tt
 lines_from_one (suc n) [] = tt
 lines_from_one (suc n) (b ∷ s) = onward_one (first_line (b ∷ s)) (λ l. lines_from n (drop (line_size l) (b ∷ s))) (first_line_one (b ∷ s)) (λ l. lines_from_one n (drop (line_size l) (b ∷ s)))
 
-lines_one : (s : List ℕ) → All OneByte (parts_of (there (lines s)))
+lines_one : (s : List ℕ) → AllByRecursion OneByte (parts_of (there (lines s)))
 unfolding lines
 lines_one s = lines_from_one (length s) s
 
-views_one : (ds : List Data) → All OneByte ds → All (λ d. d.prefix ≡ 1) (map data_view ds)
+views_one : (ds : List Data) → AllByRecursion OneByte ds → AllByRecursion (λ d. d.prefix ≡ 1) (map data_view ds)
 views_one [] h = tt
 views_one (d ∷ ds) h = (h.0, views_one ds h.1)
 
 -- so have those of a template as seen at u
-pub one_byte_lengths : (u : ℕ) (t : Section) → All (λ d. d.prefix ≡ 1) (map data_view (seen_parts u (template_of t).parts))
+pub one_byte_lengths : (u : ℕ) (t : Section) → AllByRecursion (λ d. d.prefix ≡ 1) (map data_view (seen_parts u (template_of t).parts))
 one_byte_lengths u t =
     let ds = parts_of (there (lines t.body)) in
     views_one (seen_parts u ds) (picks_all OneByte OneByte (λ x y e k. rw e k) (parts_picks u ds) (lines_one t.body))
@@ -106,7 +106,7 @@ module _ (known : Known) (lawful : AllLawful known) where
 
   -- fields that have their places and lawful types
   abbrev Laid : ℕ → ℕ → List Field → Type 0
-  Laid taken size fs = All LawfulField fs × Places known taken size fs
+  Laid taken size fs = AllByRecursion LawfulField fs × Places known taken size fs
 
   abbrev LaidBlock : Block → Type 0
   LaidBlock b = (b.size ≤ 16372) × Laid 0 b.size b.fields
@@ -134,7 +134,7 @@ module _ (known : Known) (lawful : AllLawful known) where
     fields_laid g p (part d ∷ ls) e = (tt, tt)
 
     -- each group with the fields that follow its line
-    groups_laid : (g : Ground) (p : ℕ) (ls : List Line) → lines_geometry known version g p ls ≡ fine → All (λ r. LaidBlock r.block) (groups_of ls)
+    groups_laid : (g : Ground) (p : ℕ) (ls : List Line) → lines_geometry known version g p ls ≡ fine → AllByRecursion (λ r. LaidBlock r.block) (groups_of ls)
     groups_laid g p [] e = tt
     groups_laid g p (field f ∷ ls) e = groups_laid (ground_past known g (field f)) (p + line_size (field f)) ls (both (line_verdict known version g p (field f)) _ e).1
     groups_laid g p (group tag size ∷ ls) e =
@@ -143,7 +143,7 @@ module _ (known : Known) (lawful : AllLawful known) where
     groups_laid g p (end ∷ ls) e = groups_laid g (p + 2) ls e
     groups_laid g p (part d ∷ ls) e = groups_laid (ground_past known g (part d)) (p + 9) ls (both (line_verdict known version g p (part d)) _ e).1
 
-    parts_short : (g : Ground) (p : ℕ) (ls : List Line) → lines_geometry known version g p ls ≡ fine → All (λ d. d.longest ≤ 254) (parts_of ls)
+    parts_short : (g : Ground) (p : ℕ) (ls : List Line) → lines_geometry known version g p ls ≡ fine → AllByRecursion (λ d. d.longest ≤ 254) (parts_of ls)
     parts_short g p [] e = tt
     parts_short g p (field f ∷ ls) e = parts_short (ground_past known g (field f)) (p + line_size (field f)) ls (both (line_verdict known version g p (field f)) _ e).1
     parts_short g p (group tag size ∷ ls) e = parts_short (block_ground size g.part_since) (p + 8) ls (told (block_fits size) _ _ e).1
@@ -162,7 +162,7 @@ module _ (known : Known) (lawful : AllLawful known) where
   fields_fit taken size [] l h = l
   fields_fit taken size (f ∷ fs) l h = (h.1.0, lawful_sound (kind_of known f) h.0.0, fields_fit (field_end known f) size fs h.1.1 (h.0.1, h.1.2))
 
-  slots_lawful : (fs : List Field) → All LawfulField fs → LawfulSlots (map (slot_of known) fs)
+  slots_lawful : (fs : List Field) → AllByRecursion LawfulField fs → LawfulSlots (map (slot_of known) fs)
   slots_lawful [] h = tt
   slots_lawful (f ∷ fs) h = (h.0, slots_lawful fs h.1)
 
@@ -181,15 +181,15 @@ module _ (known : Known) (lawful : AllLawful known) where
     block_lawful : (b : Block) → LaidBlock b → LawfulSlots (block_view known (seen_block u b)).slots
     block_lawful b h = slots_lawful (seen_fields u b.fields) (seen_laid b h).1.0
 
-    groups_sized : (gs : List Group) → All (λ r. LaidBlock r.block) gs → AllSized (map (group_view known) (map (seen_group u) gs))
+    groups_sized : (gs : List Group) → AllByRecursion (λ r. LaidBlock r.block) gs → AllSized (map (group_view known) (map (seen_group u) gs))
     groups_sized [] h = tt
     groups_sized (g ∷ gs) h = (block_sized g.block h.0, groups_sized gs h.1)
 
-    groups_lawful : (gs : List Group) → All (λ r. LaidBlock r.block) gs → All (λ g. LawfulSlots g.block.slots) (map (group_view known) (map (seen_group u) gs))
+    groups_lawful : (gs : List Group) → AllByRecursion (λ r. LaidBlock r.block) gs → AllByRecursion (λ g. LawfulSlots g.block.slots) (map (group_view known) (map (seen_group u) gs))
     groups_lawful [] h = tt
     groups_lawful (g ∷ gs) h = (block_lawful g.block h.0, groups_lawful gs h.1)
 
-    parts_room : (ds : List Data) → All (λ d. d.longest ≤ 254) ds → All OneByte ds → AllRoom (map data_view ds)
+    parts_room : (ds : List Data) → AllByRecursion (λ d. d.longest ≤ 254) ds → AllByRecursion OneByte ds → AllRoom (map data_view ds)
     parts_room [] h k = tt
     parts_room (d ∷ ds) h k =
         let one : 256 ^ d.prefix ≡ 256 ^ 1 = ap (λ n. 256 ^ n) k.0 in

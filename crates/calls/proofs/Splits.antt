@@ -1,6 +1,6 @@
 -- What a change of the contents does to their bytes: those of the field, group or data that is found are others, and the rest stands.
 use Rattle.std.proofs.Common.{◌≡◌, ℕ, zero, suc, ◌+◌, ◌-◌, ◌*◌, ◌<◌, ◌≤◌, true, false, eqb, ltb, List, [], ◌∷◌, ◌++◌, map, length, take, Some, Ok, Err, Result, sym, refl, ap, ◌∙◌, subst, ⊎_elim, append_assoc, append-nil, suc-mul, zero-mul, arith, length-append}
-use Rattle.std.specs.List.{AllByRecursion as All}
+use Rattle.std.specs.List.{AllByRecursion}
 use Rattle.std.proofs.lemmas.Bool.{ltb-true, cases_Bool}
 use Rattle.std.proofs.lemmas.Bool.Decides.{eqb_tells}
 use Rattle.wire.specs.declared.refusal.Reason.TheVariants as reason
@@ -378,7 +378,7 @@ pub record LawfulSlot (f : Slot) : Type 0 where
   pub lawful : Lawful kind
 
 abbrev pub LawfulSlots : List Slot → Type 0
-LawfulSlots fs = All LawfulSlot fs
+LawfulSlots fs = AllByRecursion LawfulSlot fs
 
 -- the pattern of what the blank means is the blank
 pub blank_written : (k : Kind) → Lawful k → written (Some k) k.blank_means ≡ k.blank
@@ -407,14 +407,14 @@ blank_long b s l = block_length b (blank_entry b) s (blank_filled b l)
 -- a template whose kinds are all known and lawful
 pub record LawfulView (v : View) : Type 0 where
   pub root : LawfulSlots v.root.slots
-  pub groups : All (λ g. LawfulSlots g.block.slots) v.groups
+  pub groups : AllByRecursion (λ g. LawfulSlots g.block.slots) v.groups
 
 module _ (known : Known) (lawful : AllLawful known) where
-  lawful_fields : (fs : List Field) → All (GoodField known) fs → LawfulSlots (map (slot_of known) fs)
+  lawful_fields : (fs : List Field) → AllByRecursion (GoodField known) fs → LawfulSlots (map (slot_of known) fs)
   lawful_fields [] h = tt
   lawful_fields (f ∷ fs) h = (record { kind = h.0.kind; is = h.0.known_type; lawful = lawful f.type f.argument h.0.kind h.0.known_type }, lawful_fields fs h.1)
 
-  lawful_groups : (version : ℕ) (gs : List Group) → All (GoodGroup known version) gs → All (λ g. LawfulSlots g.block.slots) (map (group_view known) gs)
+  lawful_groups : (version : ℕ) (gs : List Group) → AllByRecursion (GoodGroup known version) gs → AllByRecursion (λ g. LawfulSlots g.block.slots) (map (group_view known) gs)
   lawful_groups version [] h = tt
   lawful_groups version (g ∷ gs) h = (lawful_fields g.block.fields h.0.block.fields, lawful_groups version gs h.1)
 
@@ -425,7 +425,7 @@ field_lawful : (base tag : ℕ) (fs : List Slot) → LawfulSlots fs → IfFound 
 field_lawful base tag [] l = tt
 field_lawful base tag (f ∷ fs) l = ⊎_elim (λ a. rw a.0 l.0) (λ a. rw a.0 (field_lawful base tag fs l.1)) (eqb_tells f.tag tag)
 
-group_lawful : (from tag : ℕ) (gs : List GroupView) (ess : List (List (List Meaning))) → All (λ g. LawfulSlots g.block.slots) gs → IfFound (λ g. LawfulSlots g.group.block.slots) (group_in from gs ess tag)
+group_lawful : (from tag : ℕ) (gs : List GroupView) (ess : List (List (List Meaning))) → AllByRecursion (λ g. LawfulSlots g.block.slots) gs → IfFound (λ g. LawfulSlots g.group.block.slots) (group_in from gs ess tag)
 group_lawful from tag [] ess l = tt
 group_lawful from tag (g ∷ gs) [] l = tt
 group_lawful from tag (g ∷ gs) (es ∷ ess) l = ⊎_elim (λ a. rw a.0 l.0) (λ a. rw a.0 (group_lawful (from + length (group_bytes g es)) tag gs ess l.1)) (eqb_tells g.tag tag)

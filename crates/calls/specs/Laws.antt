@@ -1,6 +1,6 @@
 -- The law over every list of calls. Assumes nothing.
 use Rattle.std.specs.Prelude.{◌≡◌, ℕ, ◌<◌, ◌≤◌, false, List, [], map, length, take, Some, None, Ok, Err, Option, Result, ◌≢◌}
-use Rattle.std.specs.List.{AllByRecursion as All}
+use Rattle.std.specs.List.{AllByRecursion}
 use Rattle.wire.specs.declared.refusal.Reason.TheVariants as reason
 use Rattle.wire.specs.declared.refusal.Refusal.{Refusal}
 use Rattle.wire.specs.Bytes.{Bytes}
@@ -28,9 +28,9 @@ pub record IsWhatItsMessagesSay (known : Known) (s buffer : List ℕ) (ks : List
   pub buffer_left : (run_by_buffer known s no_form buffer ks).buffer ≡ (run_by_messages known s no_form buffer ks).buffer
   pub form_left : (run_by_buffer known s no_form buffer ks).form ≡ form_of known (dictionary_of s) (message_left known s buffer ks)
   -- no call finds another form's bytes
-  pub never_another_form : All (λ t. (e : Refusal) → t.said ≡ refused e → e.reason ≢ reason.NotThisForm) (run_by_buffer known s no_form buffer ks).turns
+  pub never_another_form : AllByRecursion (λ t. (e : Refusal) → t.said ≡ refused e → e.reason ≢ reason.NotThisForm) (run_by_buffer known s no_form buffer ks).turns
   -- the buffer keeps its length
-  pub same_length : All (λ t. length t.left ≡ length buffer) (run_by_buffer known s no_form buffer ks).turns
+  pub same_length : AllByRecursion (λ t. length t.left ≡ length buffer) (run_by_buffer known s no_form buffer ks).turns
   -- while there is a form, the buffer begins with the frame of its message, and a form may hold that
   pub open_begins : (m : Message) → message_left known s buffer ks ≡ opened m → take (length (frame known (dictionary_of s) m)) (run_by_buffer known s no_form buffer ks).buffer ≡ frame known (dictionary_of s) m
   pub closed_begins : (m : Message) → message_left known s buffer ks ≡ closed m → take (length (frame known (dictionary_of s) m)) (run_by_buffer known s no_form buffer ks).buffer ≡ frame known (dictionary_of s) m
@@ -48,7 +48,7 @@ pub record EqualExactlyWhenMessagesAre (known : Known) (s buffer buffer' : List 
 
 abbrev pub FramesEqualExactlyWhenMessagesAre : Known → List ℕ → List ℕ → List Call → Type 0
 FramesEqualExactlyWhenMessagesAre known s buffer ks =
-    (buffer' : List ℕ) (ks' : List Call) → Bytes buffer' → All SayableCall ks' →
+    (buffer' : List ℕ) (ks' : List Call) → Bytes buffer' → AllByRecursion SayableCall ks' →
     (m m' : Message) → message_left known s buffer ks ≡ closed m → message_left known s buffer' ks' ≡ closed m' →
     EqualExactlyWhenMessagesAre known s buffer buffer' ks ks' m m'
 
@@ -57,7 +57,7 @@ FramesEqualExactlyWhenMessagesAre known s buffer ks =
 -- a list of calls on the buffer that leaves its form closed with the message
 pub record MadeIn (known : Known) (s : List ℕ) (m : Message) (buffer : List ℕ) : Type 0 where
   pub calls : List Call
-  pub sayable : All SayableCall calls
+  pub sayable : AllByRecursion SayableCall calls
   pub left : message_left known s buffer calls ≡ closed m
 
 -- a list of calls on some buffer that leaves its form closed with the message
@@ -65,7 +65,7 @@ pub record MadeByCalls (known : Known) (s : List ℕ) (m : Message) : Type 0 whe
   pub buffer : List ℕ
   pub calls : List Call
   pub bytes : Bytes buffer
-  pub sayable : All SayableCall calls
+  pub sayable : AllByRecursion SayableCall calls
   pub left : message_left known s buffer calls ≡ closed m
 
 -- a list of calls on some buffer that leaves the bytes as its closed frame
@@ -73,7 +73,7 @@ pub record LeftByCalls (known : Known) (s bs : List ℕ) : Type 0 where
   pub buffer : List ℕ
   pub calls : List Call
   pub bytes : Bytes buffer
-  pub sayable : All SayableCall calls
+  pub sayable : AllByRecursion SayableCall calls
   pub left : frame_left known s buffer calls ≡ Some bs
 
 -- A message closes exactly if some list of calls leaves its form closed with it, and then one does on every buffer that its frame has room in; up to the dictionary's version, bytes are accepted exactly if some list of calls leaves them as its closed frame.
@@ -100,10 +100,10 @@ entries_had gs m tag = count_of (lookup (λ g. g.tag) [] gs m.contents.groups ta
 
 -- What the lines of the reader's template t read in the frame of a message of the writer's template w: what the message has there by the lines of the writer; absent, or a data without bytes, where the writer has no such line; in each group as many entries as the message has.
 pub record ReadsWhatTheMessageHas (known : Known) (writer reader : List ℕ) (m : Message) (bs : List ℕ) (w t : Template) : Type 0 where
-  pub root_fields : All (λ f. frame_reading known reader bs 0 0 f.tag ≡ Ok (had_or (message_reading (dictionary_of writer) m 0 0 f.tag) (means absent))) t.root.fields
-  pub entry_fields : All (λ g. (entry : ℕ) → entry < entries_had w.groups m g.tag → All (λ f. frame_reading known reader bs g.tag entry f.tag ≡ Ok (had_or (message_reading (dictionary_of writer) m g.tag entry f.tag) (means absent))) g.block.fields) t.groups
-  pub no_more_entries : All (λ g. (entry tag : ℕ) → entries_had w.groups m g.tag ≤ entry → frame_reading known reader bs g.tag entry tag ≡ not_found g.tag) t.groups
-  pub parts : All (λ d. frame_reading known reader bs 0 0 d.tag ≡ Ok (had_or (message_reading (dictionary_of writer) m 0 0 d.tag) (holds []))) t.parts
+  pub root_fields : AllByRecursion (λ f. frame_reading known reader bs 0 0 f.tag ≡ Ok (had_or (message_reading (dictionary_of writer) m 0 0 f.tag) (means absent))) t.root.fields
+  pub entry_fields : AllByRecursion (λ g. (entry : ℕ) → entry < entries_had w.groups m g.tag → AllByRecursion (λ f. frame_reading known reader bs g.tag entry f.tag ≡ Ok (had_or (message_reading (dictionary_of writer) m g.tag entry f.tag) (means absent))) g.block.fields) t.groups
+  pub no_more_entries : AllByRecursion (λ g. (entry tag : ℕ) → entries_had w.groups m g.tag ≤ entry → frame_reading known reader bs g.tag entry tag ≡ not_found g.tag) t.groups
+  pub parts : AllByRecursion (λ d. frame_reading known reader bs 0 0 d.tag ≡ Ok (had_or (message_reading (dictionary_of writer) m 0 0 d.tag) (holds []))) t.parts
 
 -- What a reader makes of the closed frame that a list of calls leaves under the writer's dictionary: it is refused exactly where the reader has no template of that number.
 pub record ReadBy (known : Known) (writer reader : List ℕ) (m : Message) (bs : List ℕ) : Type 0 where
@@ -146,4 +146,4 @@ pub record KeepsTheLaw (known : Known) (s buffer : List ℕ) (ks : List Call) : 
 
 -- Every list of calls keeps the law.
 abbrev pub EveryListKeepsTheLaw : Known → Type 0
-EveryListKeepsTheLaw known = (s buffer : List ℕ) (ks : List Call) → Checked known s → Bytes buffer → All SayableCall ks → KeepsTheLaw known s buffer ks
+EveryListKeepsTheLaw known = (s buffer : List ℕ) (ks : List Call) → Checked known s → Bytes buffer → AllByRecursion SayableCall ks → KeepsTheLaw known s buffer ks

@@ -1,6 +1,6 @@
 -- What each call does to a message, said of what the message has by group, entry and tag. Assumes nothing.
 use Rattle.std.specs.Prelude.{◌≡◌, ℕ, zero, suc, false, cond, List, [], ◌∷◌, ◌++◌, map, length, Some, None, Ok, Option, ◌==◌, ◌≢◌}
-use Rattle.std.specs.List.{AllByRecursion as All}
+use Rattle.std.specs.List.{AllByRecursion}
 use Rattle.wire.specs.declared.refusal.Refusal.{Refusal}
 use Rattle.types.specs.Meanings.{Meaning}
 use Rattle.types.specs.Kinds.{Kind, Known}
@@ -133,7 +133,7 @@ pub record FillsMeanWhatTheySay (room : ℕ) (v : View) (c : Contents) : Type 0 
 pub record BlankThroughout (v : View) (c : Contents) : Type 0 where
   pub root : (tag : ℕ) (k : Option Kind) → kind_in v 0 tag ≡ Some k → meaning_in v c 0 0 tag ≡ Some (blank_meaning k)
   pub groups : (group : ℕ) (b : BlockView) → block_in v.groups group ≡ Some b → entries_in v c group ≡ Some []
-  pub parts : All (λ d. bytes_in v c d.tag ≡ Some []) v.parts
+  pub parts : AllByRecursion (λ d. bytes_in v c d.tag ≡ Some []) v.parts
 
 -- under the library `known` and the dictionary that the bytes s are
 module _ (known : Known) (s : List ℕ) where

@@ -1,6 +1,6 @@
 -- Each line reads something, in each entry that there is; an entry that is not there is not found.
 use Rattle.std.proofs.Common.{◌≡◌, ℕ, zero, suc, ◌<◌, ◌≤◌, List, [], ◌∷◌, length, get_or, Some, refl, ⊎_elim, arith}
-use Rattle.std.specs.List.{AllByRecursion as All}
+use Rattle.std.specs.List.{AllByRecursion}
 use Rattle.std.proofs.ByRecursion.{All-weaker}
 use Rattle.std.proofs.lemmas.Bool.{eq-eqb}
 use Rattle.std.proofs.lemmas.Bool.Decides.{eqb_tells}
@@ -13,7 +13,7 @@ abbrev pub ReadAt : {L X : Type 0} → (L → ℕ) → X → List L → List X �
 ReadAt {X = X} tag_of d ls xs l = (x : X) × (lookup tag_of d ls xs (tag_of l) ≡ Some x)
 
 -- at the tag of each line something is read
-pub each_reads : {L X : Type 0} (tag_of : L → ℕ) (d : X) (ls : List L) (xs : List X) → All (ReadAt tag_of d ls xs) ls
+pub each_reads : {L X : Type 0} (tag_of : L → ℕ) (d : X) (ls : List L) (xs : List X) → AllByRecursion (ReadAt tag_of d ls xs) ls
 each_reads tag_of d [] xs = tt
 each_reads tag_of d (l ∷ ls) [] = (
   (d, rw (eq-eqb (tag_of l) (tag_of l) refl)),

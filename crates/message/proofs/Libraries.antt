@@ -1,6 +1,6 @@
 -- A frame that one library accepts, read by another that knows the same kinds for its template.
 use Rattle.std.proofs.Common.{◌≡◌, ℕ, Bool, ◌&&◌, eqb, ltb, List, [], ◌∷◌, map, length, drop, Some, None, Option, refl, ap, ◌∙◌, ap₂}
-use Rattle.std.specs.List.{AllByRecursion as All}
+use Rattle.std.specs.List.{AllByRecursion}
 use Rattle.wire.specs.Bytes.{Bytes}
 use Rattle.wire.specs.Streams.{frame_length}
 use Rattle.types.specs.Kinds.{Known}
@@ -24,11 +24,11 @@ module _ (known other : Known) where
   abbrev SameKind : Field → Type 0
   SameKind f = kind_of known f ≡ kind_of other f
 
-  slots_same : (fs : List Field) → All SameKind fs → map (slot_of known) fs ≡ map (slot_of other) fs
+  slots_same : (fs : List Field) → AllByRecursion SameKind fs → map (slot_of known) fs ≡ map (slot_of other) fs
   slots_same [] h = refl
   slots_same (f ∷ fs) h = ap₂ (λ k ss. record { tag = f.tag; offset = f.offset; kind = k; required = eqb f.presence 1 } ∷ ss) h.0 (slots_same fs h.1)
 
-  groups_same : (gs : List Group) → All (λ g. All SameKind g.block.fields) gs → map (group_view known) gs ≡ map (group_view other) gs
+  groups_same : (gs : List Group) → AllByRecursion (λ g. AllByRecursion SameKind g.block.fields) gs → map (group_view known) gs ≡ map (group_view other) gs
   groups_same [] h = refl
   groups_same (g ∷ gs) h = ap₂ (λ ss vs. record { tag = g.tag; block = record { size = g.block.size; slots = ss } } ∷ vs) (slots_same g.block.fields h.0) (groups_same gs h.1)
 

@@ -1,6 +1,6 @@
 -- What the bytes of an accepted frame read at a group, an entry and a tag is what the message has there.
 use Rattle.std.proofs.Common.{◌≡◌, ℕ, zero, suc, ◌+◌, ◌-◌, ◌*◌, ◌<◌, Bool, false, cond, ◌&&◌, eqb, ltb, leb, List, [], ◌∷◌, map, length, take, drop, Some, Ok, sym, refl, ap, ◌∙◌, subst, ⊎_elim, suc-mul, zero-mul, arith}
-use Rattle.std.specs.List.{AllByRecursion as All}
+use Rattle.std.specs.List.{AllByRecursion}
 use Rattle.std.proofs.lemmas.List.{drop-drop}
 use Rattle.std.proofs.lemmas.Bool.{lt-leb, lt-ltb, le-ltb, cases_lt}
 use Rattle.std.proofs.lemmas.Bool.Decides.{leb_tells, eqb_tells}
@@ -138,7 +138,7 @@ module _ (known : Known) (u : ℕ) (bs : List ℕ) where
       let place : q + stride + entry * stride ≡ q + suc entry * stride = rw suc-mul (omega arith) in
       ih ∙ (λ i. cond (sym (ltb_suc entry n) i) (of_field (field_at known u bs (place i) b.fields tag) tag) (not_found group))
 
-  groups_same : (closed newer : Bool) (version : ℕ) (gs : List Group) (p q : ℕ) (rest : List ℕ) (group entry tag : ℕ) → All (GoodGroup known version) gs → rest ≡ drop q bs →
+  groups_same : (closed newer : Bool) (version : ℕ) (gs : List Group) (p q : ℕ) (rest : List ℕ) (group entry tag : ℕ) → AllByRecursion (GoodGroup known version) gs → rest ≡ drop q bs →
       groups_verdict closed newer (map (group_view known) (map (seen_group u) gs)) p rest ≡ fine →
       in_groups gs (groups_read (map (group_view known) (map (seen_group u) gs)) rest) group entry tag ≡ group_at known u bs q gs group entry tag
   groups_same closed newer version [] p q rest group entry tag h is e = refl

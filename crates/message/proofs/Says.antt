@@ -1,6 +1,6 @@
 -- The lines of two editions say the same of a message.
 use Rattle.std.proofs.Common.{◌≡◌, ℕ, zero, suc, ◌≤◌, true, ◌⊎◌, List, [], ◌∷◌, ◌++◌, map, length, Some, None, Ok, Option, Result, sym, refl, ap, ◌∙◌, subst, ap₂, inl, inr, ⊎_elim, arith}
-use Rattle.std.specs.List.{AllByRecursion as All}
+use Rattle.std.specs.List.{AllByRecursion}
 use Rattle.std.proofs.ByRecursion.{All-weaker}
 use Rattle.std.proofs.lemmas.Bool.{ne_eqb}
 use Rattle.std.proofs.lemmas.Bool.Decides.{leb_tells, eqb_tells}
@@ -74,21 +74,21 @@ module _ {L X : Type 0} (tag_of : L → ℕ) (d : X) where
       (eqb_tells (tag_of k) tag)
 
   -- a tag that is found is one of the tags, and one that is none of them is not found
-  among : (P : ℕ → Type 0) (ls : List L) (xs : List X) (tag : ℕ) (x : X) → All P (map tag_of ls) → lookup tag_of d ls xs tag ≡ Some x → P tag
+  among : (P : ℕ → Type 0) (ls : List L) (xs : List X) (tag : ℕ) (x : X) → AllByRecursion P (map tag_of ls) → lookup tag_of d ls xs tag ≡ Some x → P tag
   among P [] xs tag x h e = let z : ◌≡◌ {A = ℕ} 0 1 = cc in absurd (omega arith)
   among P (l ∷ ls) [] tag x h e = ⊎_elim (λ a. subst P a.1 h.0) (λ a. among P ls [] tag x h.1 (rw a.0 at e)) (eqb_tells (tag_of l) tag)
   among P (l ∷ ls) (y ∷ xs) tag x h e = ⊎_elim (λ a. subst P a.1 h.0) (λ a. among P ls xs tag x h.1 (rw a.0 at e)) (eqb_tells (tag_of l) tag)
 
-  not_among : (ls : List L) (xs : List X) (tag : ℕ) → All (λ t. tag ≡ t → ⊥) (map tag_of ls) → lookup tag_of d ls xs tag ≡ None
+  not_among : (ls : List L) (xs : List X) (tag : ℕ) → AllByRecursion (λ t. tag ≡ t → ⊥) (map tag_of ls) → lookup tag_of d ls xs tag ≡ None
   not_among [] xs tag h = refl
   not_among (l ∷ ls) [] tag h = rw (ne_eqb (tag_of l) tag (λ e. h.0 (sym e))) (not_among ls [] tag h.1)
   not_among (l ∷ ls) (y ∷ xs) tag h = rw (ne_eqb (tag_of l) tag (λ e. h.0 (sym e))) (not_among ls xs tag h.1)
 
-all_right : {X : Type 0} (P : X → Type 0) (xs ys : List X) → All P (xs ++ ys) → All P ys
+all_right : {X : Type 0} (P : X → Type 0) (xs ys : List X) → AllByRecursion P (xs ++ ys) → AllByRecursion P ys
 all_right P [] ys h = h
 all_right P (x ∷ xs) ys h = all_right P xs ys h.1
 
-apart : (xs ys : List ℕ) → Distinct (xs ++ ys) → All (λ t. All (λ u. u ≡ t → ⊥) ys) xs
+apart : (xs ys : List ℕ) → Distinct (xs ++ ys) → AllByRecursion (λ t. AllByRecursion (λ u. u ≡ t → ⊥) ys) xs
 apart [] ys h = tt
 apart (x ∷ xs) ys h = (all_right (λ u. u ≡ x → ⊥) xs ys h.0.1, apart xs ys h.1)
 
@@ -99,7 +99,7 @@ no_field t h xs ms tag x e =
     let groups = map (λ g. g.tag) t.groups in
     let parts = map (λ d. d.tag) t.parts in
     not_among (λ f. f.tag) absent t.root.fields ms tag
-    (All-weaker (λ u. All (λ w. w ≡ u → ⊥) (groups ++ parts)) (λ u. tag ≡ u → ⊥)
+    (All-weaker (λ u. AllByRecursion (λ w. w ≡ u → ⊥) (groups ++ parts)) (λ u. tag ≡ u → ⊥)
     (λ u k. among (λ d. d.tag) [] (λ w. w ≡ u → ⊥) t.parts xs tag x (all_right (λ w. w ≡ u → ⊥) groups parts k) e)
     fields (apart fields (groups ++ parts) h))
 

@@ -1,6 +1,6 @@
 -- The items of a frame tell what its message holds, in the same order.
 use Rattle.std.proofs.Common.{◌≡◌, ℕ, zero, suc, ◌+◌, ◌-◌, List, [], ◌∷◌, ◌++◌, map, length, take, drop, sym, refl, ap, ◌∙◌, ap₂, arith}
-use Rattle.std.specs.List.{AllByRecursion as All}
+use Rattle.std.specs.List.{AllByRecursion}
 use Rattle.std.proofs.lemmas.List.{drop-drop, map-append}
 use Rattle.types.specs.Kinds.{Known}
 use Rattle.schema.specs.Structure.{Field, Block, Group, Data, Template}
@@ -47,7 +47,7 @@ module _ (known : Known) (bs : List ℕ) where
       map-append (told_by known) (block_items known bs q b.fields) (entries_items known bs b.fields stride n (q + stride))
       ∙ ap₂ (λ x y. x ++ y) (block_told version q b rest is g) (entries_told version stride b n (q + stride) (drop stride rest) next g)
 
-  groups_told : (version q : ℕ) (gs : List Group) (rest : List ℕ) → rest ≡ drop q bs → All (GoodGroup known version) gs → map (told_by known) (groups_items known bs q gs) ≡ told_groups gs (groups_read (map (group_view known) gs) rest)
+  groups_told : (version q : ℕ) (gs : List Group) (rest : List ℕ) → rest ≡ drop q bs → AllByRecursion (GoodGroup known version) gs → map (told_by known) (groups_items known bs q gs) ≡ told_groups gs (groups_read (map (group_view known) gs) rest)
   groups_told version q [] rest is h = refl
   groups_told version q (g ∷ gs) rest is h =
       let b = g.block in

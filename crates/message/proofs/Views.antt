@@ -1,6 +1,6 @@
 -- A template of a well-formed dictionary, seen with the kinds of a lawful library: its fields fit, and it reads what it writes.
 use Rattle.std.proofs.Common.{◌≡◌, ℕ, ◌^◌, ◌≤◌, Bool, true, false, List, [], ◌∷◌, map, length, take, Some, sym, refl, ap, ◌∙◌, subst, ap₂, arith}
-use Rattle.std.specs.List.{AllByRecursion as All}
+use Rattle.std.specs.List.{AllByRecursion}
 use Rattle.std.proofs.lemmas.List.{append-nil}
 use Rattle.std.proofs.lemmas.Bool.{le-leb, eq-eqb}
 use Rattle.types.specs.Meanings.{Meaning}
@@ -33,7 +33,7 @@ pub record SoundView (v : View) : Type 0 where
 -- ---- from a well-formed dictionary
 
 module _ (known : Known) (lawful : AllLawful known) where
-  fields_fit : (taken size : ℕ) (fs : List Field) → taken ≤ size → All (GoodField known) fs → Places known taken size fs → Fits taken (map (slot_of known) fs) size
+  fields_fit : (taken size : ℕ) (fs : List Field) → taken ≤ size → AllByRecursion (GoodField known) fs → Places known taken size fs → Fits taken (map (slot_of known) fs) size
   fields_fit taken size [] l g p = l
   fields_fit taken size (f ∷ fs) l g p =
       (p.0, subst SoundKind (sym g.0.known_type) (sound_lawful g.0.kind (lawful f.type f.argument g.0.kind g.0.known_type)), fields_fit (field_end known f) size fs p.1 g.1 p.2)
@@ -42,11 +42,11 @@ module _ (known : Known) (lawful : AllLawful known) where
     pub block_sized : (b : Block) → GoodBlock known version b → Sized (block_view known b)
     block_sized b g = (fields_fit 0 b.size b.fields (omega arith) g.fields g.places, g.size_fits)
 
-    groups_sized : (gs : List Group) → All (GoodGroup known version) gs → AllSized (map (group_view known) gs)
+    groups_sized : (gs : List Group) → AllByRecursion (GoodGroup known version) gs → AllSized (map (group_view known) gs)
     groups_sized [] h = tt
     groups_sized (g ∷ gs) h = (block_sized g.block h.0.block, groups_sized gs h.1)
 
-    parts_room : (ds : List Data) → All GoodData ds → AllRoom (map data_view ds)
+    parts_room : (ds : List Data) → AllByRecursion GoodData ds → AllRoom (map data_view ds)
     parts_room [] h = tt
     parts_room (d ∷ ds) h =
         let one : 256 ^ d.prefix ≡ 256 ^ 1 = ap (λ n. 256 ^ n) h.0.one_byte in

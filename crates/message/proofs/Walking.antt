@@ -1,6 +1,6 @@
 -- The items of an accepted frame follow one another and, with the bytes between them, make up the frame.
 use Rattle.std.proofs.Common.{◌≡◌, ℕ, zero, suc, ◌+◌, ◌-◌, ◌*◌, ◌≤◌, Bool, true, false, ltb, leb, List, [], ◌∷◌, ◌++◌, map, length, take, drop, Ok, sym, refl, ap, ◌∙◌, subst, ap₂, suc-mul, zero-mul, arith, length-drop}
-use Rattle.std.specs.List.{AllByRecursion as All}
+use Rattle.std.specs.List.{AllByRecursion}
 use Rattle.std.proofs.lemmas.List.{drop-drop, take-append-drop, length-take-le}
 use Rattle.std.proofs.lemmas.Bool.{leb-true, eqb-true}
 use Rattle.wire.specs.Bytes.{Bytes}
@@ -126,7 +126,7 @@ module _ (bs : List ℕ) where
     wide_enough true given own e = leb-true own given e
     wide_enough false given own e = let k = eqb-true given own e in omega arith
 
-    groups_laid : (closed newer : Bool) (version : ℕ) (gs : List Group) (p q : ℕ) (rest : List ℕ) → All (GoodGroup known version) gs → rest ≡ drop q bs → q ≤ length bs →
+    groups_laid : (closed newer : Bool) (version : ℕ) (gs : List Group) (p q : ℕ) (rest : List ℕ) → AllByRecursion (GoodGroup known version) gs → rest ≡ drop q bs → q ≤ length bs →
         groups_verdict closed newer (map (group_view known) gs) p rest ≡ fine → (groups_end bs q gs ≤ length bs) × Laid_out bs q (groups_end bs q gs) (groups_items known bs q gs)
     groups_laid closed newer version [] p q rest h is l e = (l, omega arith)
     groups_laid closed newer version (g ∷ gs) p q rest h is l e =

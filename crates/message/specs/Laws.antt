@@ -1,6 +1,6 @@
 -- The laws of frames and messages. Assumes nothing.
 use Rattle.std.specs.Prelude.{◌≡◌, ℕ, ◌≤◌, Bool, false, ◌⊎◌, List, [], ◌++◌, map, length, take, Some, None, Ok, Err, ◌≢◌}
-use Rattle.std.specs.List.{AllByRecursion as All}
+use Rattle.std.specs.List.{AllByRecursion}
 use Rattle.wire.specs.declared.refusal.Reason.TheVariants as reason
 use Rattle.wire.specs.declared.refusal.Refusal.{Refusal}
 use Rattle.wire.specs.Bytes.{Bytes}
@@ -45,8 +45,8 @@ ReadsAsItsMessage known s bs = (group entry tag : ℕ) → frame_reading known s
 
 -- Two libraries know the same kinds for the types of a template's fields, of the root and of each group.
 pub record SameKinds (known other : Known) (t : Template) : Type 0 where
-  pub root : All (λ f. kind_of known f ≡ kind_of other f) t.root.fields
-  pub groups : All (λ g. All (λ f. kind_of known f ≡ kind_of other f) g.block.fields) t.groups
+  pub root : AllByRecursion (λ f. kind_of known f ≡ kind_of other f) t.root.fields
+  pub groups : AllByRecursion (λ g. AllByRecursion (λ f. kind_of known f ≡ kind_of other f) g.block.fields) t.groups
 
 -- They do so for a frame's template, as far as the frame's version shows it: lines that are newer may differ.
 abbrev pub SameKindsFor : Known → Known → List ℕ → List ℕ → Type 0

@@ -1,6 +1,6 @@
 -- Calls made one after another: what is left gives what the whole gives.
 use Rattle.std.proofs.Common.{◌≡◌, ℕ, ◌+◌, ◌<◌, ◌≤◌, min, List, [], ◌∷◌, ◌++◌, map, length, get_or, take, drop, set, sym, refl, ap, ◌∙◌, subst, arith, length-take}
-use Rattle.std.specs.List.{AllByRecursion as All}
+use Rattle.std.specs.List.{AllByRecursion}
 use Rattle.std.proofs.lemmas.List.{append_assoc, append-nil, at_drop_more, at_drop_all, take_more_set, take_all, drop-set-lt, drop-drop, drop-map, map-append, map_push, take-append-drop, length-map, get_or-take, get_or-map}
 use Rattle.std.proofs.ByRecursion.{All-more}
 use Rattle.wire.specs.Bytes.{Bytes}
@@ -32,7 +32,7 @@ module _ (known : Known) (s : List ℕ) (st₀ : calls.Form Numbers) (buffer₀ 
     pub buffer_left : (rest i st buffer).buffer ≡ whole.buffer
     pub said : map shown_answer (take i answers) ++ answers_of (rest i st buffer) ≡ answers_of whole
     pub others : drop i answers ≡ drop i answers₀
-    pub sayable : All SayableCall (take i made)
+    pub sayable : AllByRecursion SayableCall (take i made)
 
   pub begins : Going 0 st₀ buffer₀ answers₀
   begins = record { within = omega arith; form_left = refl; buffer_left = refl; said = refl; others = refl; sayable = tt }
@@ -90,7 +90,7 @@ module _ (known : Known) (s : List ℕ) (st₀ : calls.Form Numbers) (buffer₀ 
         ∙ (λ j. so_far j ++ behind j)
 
     pub keeps_the_law : AllLawful known → Bytes buffer₀ → Checked known s → KeepsTheLaw known s buffer₀ made
-    keeps_the_law lawful bytes checked = every_list_keeps_the_law known lawful s buffer₀ made checked bytes (subst (All SayableCall) (take_all i made l) h.sayable)
+    keeps_the_law lawful bytes checked = every_list_keeps_the_law known lawful s buffer₀ made checked bytes (subst (AllByRecursion SayableCall) (take_all i made l) h.sayable)
 
 -- ---- the calls that are made
 

@@ -1,6 +1,6 @@
 -- Bytes cut into pieces, one behind the other: the pieces written out are cut into the same pieces, and back.
 use Rattle.std.proofs.Common.{◌≡◌, ℕ, zero, suc, ◌+◌, ◌<◌, ◌≤◌, List, [], ◌∷◌, ◌++◌, map, length, drop, Some, None, Option, refl, ap, ◌∙◌, arith, length-append, length-drop}
-use Rattle.std.specs.List.{flat_map, AllByRecursion as All}
+use Rattle.std.specs.List.{flat_map, AllByRecursion}
 use Rattle.std.proofs.lemmas.List.{drop_at}
 use Rattle.std.proofs.ByRecursion.{All-drop}
 use Rattle.wire.specs.Bytes.{Bytes}
@@ -40,14 +40,14 @@ pub record Form {X : Type 0} (first : List ℕ → Option X) (size : X → ℕ) 
 
 -- bytes are those of pieces that have room
 abbrev pub Made : {X : Type 0} → (X → List ℕ) → (X → Type 0) → List ℕ → List X → Type 0
-Made bytes Fit s xs = (flat_map bytes xs ≡ s) × All Fit xs
+Made bytes Fit s xs = (flat_map bytes xs ≡ s) × AllByRecursion Fit xs
 
 module _ {X : Type 0} (first : List ℕ → Option X) (size : X → ℕ) (bytes : X → List ℕ) (Fit : X → Type 0) (form : Form first size bytes Fit) where
   cut_more : (n : ℕ) (s : List ℕ) (x : X) → 1 ≤ length s → first s ≡ Some x → cut first size (suc n) s ≡ Some x ∷ cut first size n (drop (size x) s)
   cut_more n [] x h e = absurd (omega arith)
   cut_more n (b ∷ s) x h e = ap (λ o. onward o (λ y. cut first size n (drop (size y) (b ∷ s)))) e
 
-  pub cut_of : (xs : List X) (n : ℕ) → All Fit xs → length (flat_map bytes xs) ≤ n → cut first size n (flat_map bytes xs) ≡ map Some xs
+  pub cut_of : (xs : List X) (n : ℕ) → AllByRecursion Fit xs → length (flat_map bytes xs) ≤ n → cut first size n (flat_map bytes xs) ≡ map Some xs
   cut_of [] zero f h = refl
   cut_of [] (suc n) f h = refl
   cut_of (x ∷ xs) zero f h =

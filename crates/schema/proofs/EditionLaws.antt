@@ -1,6 +1,6 @@
 -- How editions of a dictionary stand to one another, and what is found in them.
 use Rattle.std.proofs.Common.{◌≡◌, ℕ, ◌+◌, ◌<◌, ◌≤◌, min, cond, leb, List, [], ◌∷◌, map, Some, None, Option, sym, refl, ap, ◌∙◌, subst, ap₂, ⊎_elim, arith}
-use Rattle.std.specs.List.{AllByRecursion as All}
+use Rattle.std.specs.List.{AllByRecursion}
 use Rattle.std.proofs.lemmas.Bool.{le-leb, ne_eqb}
 use Rattle.std.proofs.lemmas.Bool.Decides.{leb_tells, eqb_tells}
 use Rattle.types.specs.Kinds.{Known}
@@ -21,14 +21,14 @@ module _ (known : Known) (version : ℕ) where
       let size = length_of_all version b.size b.fields (sinces_all version 0 b.fields g.sinces) in
       λ i. record { size = size i; fields = cut_all fields_cut version 0 b.fields g.sinces i }
 
-  groups_whole : (gs : List Group) → All (GoodGroup known version) gs → map (seen_group version) gs ≡ gs
+  groups_whole : (gs : List Group) → AllByRecursion (GoodGroup known version) gs → map (seen_group version) gs ≡ gs
   groups_whole [] h = refl
   groups_whole (g ∷ gs) h = λ i. record { tag = g.tag; block = block_whole g.block h.0.block i } ∷ groups_whole gs h.1 i
 
   template_whole : (t : Template) → GoodTemplate known version t → seen_template version t ≡ t
   template_whole t g = λ i. record { number = t.number; since = t.since; root = block_whole t.root g.root i; groups = groups_whole t.groups g.groups i; parts = cut_all parts_cut version 0 t.parts g.part_sinces i }
 
-  pub seen_whole : (ts : List Template) → All (GoodTemplate known version) ts → seen version ts ≡ ts
+  pub seen_whole : (ts : List Template) → AllByRecursion (GoodTemplate known version) ts → seen version ts ≡ ts
   seen_whole [] h = refl
   seen_whole (t ∷ ts) h = rw (le-leb t.since version h.0.since) (ap₂ (λ x xs. x ∷ xs) (template_whole t h.0) (seen_whole ts h.1))
 
@@ -85,7 +85,7 @@ pub template_at_earlier : (e d : Dictionary) → EarlierEdition e d → (n u : �
 template_at_earlier e d x n u l = ap (find n) (shows_the_same e d x u l)
 
 -- what holds of each template holds of the one that is found, and it has that number
-pub find_holds : (P : Template → Type 0) (n : ℕ) (ts : List Template) (t : Template) → All P ts → find n ts ≡ Some t → P t × (t.number ≡ n)
+pub find_holds : (P : Template → Type 0) (n : ℕ) (ts : List Template) (t : Template) → AllByRecursion P ts → find n ts ≡ Some t → P t × (t.number ≡ n)
 find_holds P n [] t h e = let z : ◌≡◌ {A = ℕ} 0 1 = cc in absurd (omega arith)
 find_holds P n (x ∷ ts) t h e = ⊎_elim
     (λ a. let q : Some x ≡ Some t = rw a.0 at e in let r : x ≡ t = cc in (subst P r h.0, ap (λ y. y.number) (sym r) ∙ a.1))

@@ -1,6 +1,6 @@
 -- A template is good exactly if its names are, its places are, and each number of its lines has room.
 use Rattle.std.proofs.Common.{◌≡◌, ℕ, ◌^◌, ◌<◌, ◌≤◌, true, List, [], ◌∷◌, ◌++◌, map, length, Some, None, Option, sym, refl, ap, subst, arith}
-use Rattle.std.specs.List.{flat_map, AllByRecursion as All}
+use Rattle.std.specs.List.{flat_map, AllByRecursion}
 use Rattle.std.proofs.ByRecursion.{All-weaker}
 use Rattle.std.proofs.lemmas.Bool.{false≢true}
 use Rattle.types.specs.Kinds.{Kind, Known}
@@ -18,34 +18,34 @@ use Rattle.schema.proofs.Placed.{Typed, Measured, Laid, GoodPlaces}
 -- ---- the lines of a template have room
 
 abbrev FitGroup : Group → Type 0
-FitGroup g = (g.tag < 2 ^ 32) × (g.block.size < 2 ^ 16) × All FitField g.block.fields
+FitGroup g = (g.tag < 2 ^ 32) × (g.block.size < 2 ^ 16) × AllByRecursion FitField g.block.fields
 
-fit_fields : (fs : List Field) (ls : List Line) → Iff (All FitLine (map field fs ++ ls)) (All FitField fs × All FitLine ls)
+fit_fields : (fs : List Field) (ls : List Line) → Iff (AllByRecursion FitLine (map field fs ++ ls)) (AllByRecursion FitField fs × AllByRecursion FitLine ls)
 fit_fields [] ls = ((λ h. (tt, h)), (λ h. h.1))
 fit_fields (f ∷ fs) ls =
     let r = fit_fields fs ls in
     ((λ h. let k = r.0 h.1 in ((h.0, k.0), k.1)), (λ h. (h.0.0, r.1 (h.0.1, h.1))))
 
-fit_groups : (gs : List Group) (ls : List Line) → Iff (All FitLine (flat_map group_lines gs ++ ls)) (All FitGroup gs × All FitLine ls)
+fit_groups : (gs : List Group) (ls : List Line) → Iff (AllByRecursion FitLine (flat_map group_lines gs ++ ls)) (AllByRecursion FitGroup gs × AllByRecursion FitLine ls)
 fit_groups [] ls = ((λ h. (tt, h)), (λ h. h.1))
 fit_groups (g ∷ gs) ls =
     let r = fit_groups gs ls in
     let x = fit_fields g.block.fields (end ∷ (flat_map group_lines gs ++ ls)) in
-    subst (λ (ms : List Line). Iff (All FitLine ms) (All FitGroup (g ∷ gs) × All FitLine ls)) (sym (group_tail g gs ls)) (
+    subst (λ (ms : List Line). Iff (AllByRecursion FitLine ms) (AllByRecursion FitGroup (g ∷ gs) × AllByRecursion FitLine ls)) (sym (group_tail g gs ls)) (
       (λ h. let k = x.0 h.1 in let m = r.0 k.1.1 in (((h.0.0, h.0.1, k.0), m.0), m.1)),
       (λ h. ((h.0.0.0, h.0.0.1), x.1 (h.0.0.2, (tt, r.1 (h.0.1, h.1))))),
     )
 
-fit_parts : (ds : List Data) → Iff (All FitLine (map part ds)) (All FitPart ds)
+fit_parts : (ds : List Data) → Iff (AllByRecursion FitLine (map part ds)) (AllByRecursion FitPart ds)
 fit_parts [] = ((λ h. h), (λ h. h))
 fit_parts (d ∷ ds) =
     let r = fit_parts ds in
     ((λ h. (h.0, r.0 h.1)), (λ h. (h.0, r.1 h.1)))
 
 abbrev FitTemplate : Template → Type 0
-FitTemplate t = All FitField t.root.fields × (All FitGroup t.groups × All FitPart t.parts)
+FitTemplate t = AllByRecursion FitField t.root.fields × (AllByRecursion FitGroup t.groups × AllByRecursion FitPart t.parts)
 
-fit_iff : (t : Template) → Iff (All FitLine (template_lines t)) (FitTemplate t)
+fit_iff : (t : Template) → Iff (AllByRecursion FitLine (template_lines t)) (FitTemplate t)
 fit_iff t =
     let a = fit_fields t.root.fields (flat_map group_lines t.groups ++ map part t.parts) in
     let b = fit_groups t.groups (map part t.parts) in
@@ -57,7 +57,7 @@ fit_iff t =
 -- ---- good fields, blocks, groups and data
 
 -- two facts of each element give a third
-all_pair : {X : Type 0} (P Q R : X → Type 0) → ((x : X) → P x → Q x → R x) → (xs : List X) → All P xs → All Q xs → All R xs
+all_pair : {X : Type 0} (P Q R : X → Type 0) → ((x : X) → P x → Q x → R x) → (xs : List X) → AllByRecursion P xs → AllByRecursion Q xs → AllByRecursion R xs
 all_pair P Q R f [] h k = tt
 all_pair P Q R f (x ∷ xs) h k = (f x h.0 k.0, all_pair P Q R f xs h.1 k.1)
 
@@ -80,20 +80,20 @@ module _ (known : Known) (version : ℕ) where
   field_fit : (f : Field) → GoodField known f → FitField f
   field_fit f h = let l = h.presence in (h.tag_fits, h.offset_fits, h.since_fits, h.type_fits, omega arith, h.argument_fits, h.argument_bytes)
 
-  good_block : (b : Block) → b.size ≤ 16372 → length b.fields ≤ 64 → Laid known version b → All FitField b.fields → GoodBlock known version b
+  good_block : (b : Block) → b.size ≤ 16372 → length b.fields ≤ 64 → Laid known version b → AllByRecursion FitField b.fields → GoodBlock known version b
   good_block b s l h k =
       record { size_fits = s; few = l; fields = all_pair (Typed known) FitField (GoodField known) good_field b.fields h.0 k; places = h.1; sinces = h.2 }
 
   block_laid : (b : Block) → GoodBlock known version b → Laid known version b
   block_laid b h = (All-weaker (GoodField known) (Typed known) field_typed b.fields h.fields, h.places, h.sinces)
 
-  block_fit : (b : Block) → GoodBlock known version b → All FitField b.fields
+  block_fit : (b : Block) → GoodBlock known version b → AllByRecursion FitField b.fields
   block_fit b h = All-weaker (GoodField known) FitField field_fit b.fields h.fields
 
   abbrev LaidGroup : Group → Type 0
   LaidGroup g = (g.block.size ≤ 16372) × Laid known version g.block
 
-  good_groups : (gs : List Group) → All Inner gs → All LaidGroup gs → All FitGroup gs → All (GoodGroup known version) gs
+  good_groups : (gs : List Group) → AllByRecursion Inner gs → AllByRecursion LaidGroup gs → AllByRecursion FitGroup gs → AllByRecursion (GoodGroup known version) gs
   good_groups gs n l f =
       all_pair (λ g. Inner g × LaidGroup g) FitGroup (GoodGroup known version)
       (λ g h k. record { tag_fits = k.0; block = good_block g.block h.1.0 h.0.0 h.1.1 k.2; tags = h.0.1 })
@@ -102,7 +102,7 @@ module _ (known : Known) (version : ℕ) where
   good_data : (d : Data) → Measured d → FitPart d → GoodData d
   good_data d h k = record { tag_fits = k.0; since_fits = k.1; least = h.0; most = h.1; one_byte = k.3 }
 
-  pub good_template : (t : Template) → t.number < 2 ^ 16 → t.since ≤ version → t.root.size ≤ 16372 → GoodNames t → GoodPlaces known version t → All FitLine (template_lines t) → GoodTemplate known version t
+  pub good_template : (t : Template) → t.number < 2 ^ 16 → t.since ≤ version → t.root.size ≤ 16372 → GoodNames t → GoodPlaces known version t → AllByRecursion FitLine (template_lines t) → GoodTemplate known version t
   good_template t n s z names places fits =
       let f = (fit_iff t).0 fits in
       record {
@@ -136,7 +136,7 @@ module _ (known : Known) (version : ℕ) where
         part_sinces = h.part_sinces;
       }
 
-  pub template_fits : (t : Template) → GoodTemplate known version t → All FitLine (template_lines t)
+  pub template_fits : (t : Template) → GoodTemplate known version t → AllByRecursion FitLine (template_lines t)
   template_fits t h =
       (fit_iff t).1 (
         block_fit t.root h.root,

@@ -1,6 +1,6 @@
 -- The length of a block at a version: it lies between its fields and never falls as the version rises.
 use Rattle.std.proofs.Common.{◌≡◌, ℕ, ◌≤◌, List, [], ◌∷◌, map, refl, ap, ⊎_elim, arith}
-use Rattle.std.specs.List.{AllByRecursion as All}
+use Rattle.std.specs.List.{AllByRecursion}
 use Rattle.std.proofs.lemmas.Bool.{le-leb}
 use Rattle.std.proofs.lemmas.Bool.Decides.{leb_tells}
 use Rattle.types.specs.Kinds.{Known, AllLawful}
@@ -46,17 +46,17 @@ module _ (known : Known) where
 
 -- ---- it is the declared length exactly if no field is newer
 
-pub length_of_all : (v size : ℕ) (fs : List Field) → All (λ f. f.since ≤ v) fs → length_at v size fs ≡ size
+pub length_of_all : (v size : ℕ) (fs : List Field) → AllByRecursion (λ f. f.since ≤ v) fs → length_at v size fs ≡ size
 length_of_all v size [] h = refl
 length_of_all v size (f ∷ fs) h = rw (le-leb f.since v h.0) (length_of_all v size fs h.1)
 
-pub sinces_all : (version before : ℕ) (fs : List Field) → Sinces version before (map (λ f. f.since) fs) → All (λ f. f.since ≤ version) fs
+pub sinces_all : (version before : ℕ) (fs : List Field) → Sinces version before (map (λ f. f.since) fs) → AllByRecursion (λ f. f.since ≤ version) fs
 sinces_all version before [] h = tt
 sinces_all version before (f ∷ fs) h = (h.1, sinces_all version f.since fs h.2)
 
 -- where each kind has a width of 1 or more
 module _ (known : Known) (lawful : AllLawful known) where
-  all_of_length : (v taken size : ℕ) (fs : List Field) → All (GoodField known) fs → Places known taken size fs → length_at v size fs ≡ size → All (λ f. f.since ≤ v) fs
+  all_of_length : (v taken size : ℕ) (fs : List Field) → AllByRecursion (GoodField known) fs → Places known taken size fs → length_at v size fs ≡ size → AllByRecursion (λ f. f.since ≤ v) fs
   all_of_length v taken size [] g h e = tt
   all_of_length v taken size (f ∷ fs) g h e =
       let wide : 1 ≤ g.0.kind.width = (lawful f.type f.argument g.0.kind g.0.known_type).least in
@@ -67,5 +67,5 @@ module _ (known : Known) (lawful : AllLawful known) where
       (λ a. let here : f.offset ≡ size = rw a.0 at e in absurd (omega arith))
       (leb_tells f.since v)
 
-  pub none_newer : (version : ℕ) (b : Block) → GoodBlock known version b → (v : ℕ) → length_at v b.size b.fields ≡ b.size → All (λ f. f.since ≤ v) b.fields
+  pub none_newer : (version : ℕ) (b : Block) → GoodBlock known version b → (v : ℕ) → length_at v b.size b.fields ≡ b.size → AllByRecursion (λ f. f.since ≤ v) b.fields
   none_newer version b g v e = all_of_length v 0 b.size b.fields g.fields g.places e

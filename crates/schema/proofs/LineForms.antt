@@ -1,6 +1,6 @@
 -- A line written out is the line that its bytes begin with, and back.
 use Rattle.std.proofs.Common.{◌≡◌, ℕ, zero, suc, ◌+◌, ◌-◌, ◌^◌, ◌<◌, ◌≤◌, true, ◌&&◌, eqb, leb, List, [], ◌∷◌, ◌++◌, map, length, get_or, take, drop, Some, None, Option, sym, refl, ◌∙◌, ap₂, arith, length-append, length-drop}
-use Rattle.std.specs.List.{AllByRecursion as All}
+use Rattle.std.specs.List.{AllByRecursion}
 use Rattle.std.proofs.lemmas.List.{take_at, take-append-drop, length-take-le, get_or-take, drop_all}
 use Rattle.std.proofs.ByRecursion.{All-drop, All-take, All-append}
 use Rattle.std.proofs.lemmas.Bool.{leb-true, eqb-true, le-leb, and_parts, and_from, cond_both}
@@ -164,7 +164,7 @@ lines_cut (suc n) [] = refl
 lines_cut (suc n) (b ∷ s) = λ i. onward (first_line (b ∷ s)) (λ l. lines_cut n (drop (line_size l) (b ∷ s)) i)
 
 -- lines written out are cut into the same lines
-pub lines_of : (ls : List Line) → All FitLine ls → lines (lines_bytes ls) ≡ map Some ls
+pub lines_of : (ls : List Line) → AllByRecursion FitLine ls → lines (lines_bytes ls) ≡ map Some ls
 unfolding lines
 lines_of ls h =
     lines_cut (length (lines_bytes ls)) (lines_bytes ls)

@@ -1,6 +1,6 @@
 -- A template's lines pass as to shape and names exactly if its tags differ and there are not too many.
 use Rattle.std.proofs.Common.{◌≡◌, ℕ, suc, ◌+◌, ◌<◌, ◌≤◌, true, not, ◌&&◌, eqb, ltb, List, [], ◌∷◌, ◌++◌, map, length, Some, Decides, Option, sym, refl, subst, ⊎_elim, arith}
-use Rattle.std.specs.List.{flat_map, AllByRecursion as All}
+use Rattle.std.specs.List.{flat_map, AllByRecursion}
 use Rattle.std.proofs.lemmas.List.{length-map}
 use Rattle.std.proofs.ByRecursion.{All-weaker}
 use Rattle.std.proofs.lemmas.Bool.{false≢true}
@@ -19,9 +19,9 @@ use Rattle.schema.proofs.Ordered.{above, group_tail}
 -- ---- tags that come one behind the other
 
 abbrev New : ℕ → List ℕ → Type 0
-New t above = (t ≡ 0 → ⊥) × All (λ u. u ≡ t → ⊥) above
+New t above = (t ≡ 0 → ⊥) × AllByRecursion (λ u. u ≡ t → ⊥) above
 
-decides_absent : (t : ℕ) (o : List ℕ) → Decides (not (member t o)) (All (λ u. u ≡ t → ⊥) o)
+decides_absent : (t : ℕ) (o : List ℕ) → Decides (not (member t o)) (AllByRecursion (λ u. u ≡ t → ⊥) o)
 decides_absent t [] = ((λ _. tt), (λ _. refl))
 decides_absent t (u ∷ o) =
     let r = decides_absent t o in
@@ -54,9 +54,9 @@ fresh_append (t ∷ ts) us o =
 
 -- none of the tags is among those above
 abbrev Apart : List ℕ → List ℕ → Type 0
-Apart o ts = All (λ t. All (λ u. u ≡ t → ⊥) o) ts
+Apart o ts = AllByRecursion (λ t. AllByRecursion (λ u. u ≡ t → ⊥) o) ts
 
-apart_more : (o ts : List ℕ) (t : ℕ) → All (λ u. u ≡ t → ⊥) ts → Apart o ts → Apart (t ∷ o) ts
+apart_more : (o ts : List ℕ) (t : ℕ) → AllByRecursion (λ u. u ≡ t → ⊥) ts → Apart o ts → Apart (t ∷ o) ts
 apart_more o [] t h k = tt
 apart_more o (u ∷ ts) t h k = (((λ e. h.0 (sym e)), k.0), apart_more o ts t h.1 k.1)
 
@@ -66,8 +66,8 @@ fresh_distinct (t ∷ ts) o =
     let r = fresh_distinct ts (t ∷ o) in (
       (λ h.
           let k = r.0 h.1 in (
-            ((h.0.0, All-weaker (λ u. All (λ v. v ≡ u → ⊥) (t ∷ o)) (λ u. u ≡ t → ⊥) (λ u a e. a.0 (sym e)) ts k.1), k.0),
-            (h.0.1, All-weaker (λ u. All (λ v. v ≡ u → ⊥) (t ∷ o)) (λ u. All (λ v. v ≡ u → ⊥) o) (λ u a. a.1) ts k.1),
+            ((h.0.0, All-weaker (λ u. AllByRecursion (λ v. v ≡ u → ⊥) (t ∷ o)) (λ u. u ≡ t → ⊥) (λ u a e. a.0 (sym e)) ts k.1), k.0),
+            (h.0.1, All-weaker (λ u. AllByRecursion (λ v. v ≡ u → ⊥) (t ∷ o)) (λ u. AllByRecursion (λ v. v ≡ u → ⊥) o) (λ u a. a.1) ts k.1),
           )),
       (λ h. ((h.0.0.0, h.1.0), r.1 (h.0.1, apart_more o ts t h.0.0.1 h.1.1))),
     )
@@ -191,7 +191,7 @@ parts_shape (d ∷ ds) s h o i g n p =
 -- tags differ, in the root with groups and data and in each group, and none are too many
 pub record GoodNames (t : Template) : Type 0 where
   pub few : length t.root.fields ≤ 64
-  pub inner : All (λ g. (length g.block.fields ≤ 64) × Distinct (map (λ f. f.tag) g.block.fields)) t.groups
+  pub inner : AllByRecursion (λ g. (length g.block.fields ≤ 64) × Distinct (map (λ f. f.tag) g.block.fields)) t.groups
   pub few_groups : length t.groups ≤ 8
   pub few_parts : length t.parts ≤ 8
   pub tags : Distinct (outer_tags t)
@@ -209,7 +209,7 @@ inner_iff fs =
     let d = distinct_iff (field_tags fs) in
     ((λ h. let k = r.0 h in (k.0, d.0 k.1)), (λ k. r.1 (k.0, d.1 k.1)))
 
-groups_iff : (gs : List Group) (n : ℕ) (o : List ℕ) → Iff (NamedGroups n o gs) (Named 8 n o (group_tags gs) × All (λ g. (length g.block.fields ≤ 64) × Distinct (map (λ f. f.tag) g.block.fields)) gs)
+groups_iff : (gs : List Group) (n : ℕ) (o : List ℕ) → Iff (NamedGroups n o gs) (Named 8 n o (group_tags gs) × AllByRecursion (λ g. (length g.block.fields ≤ 64) × Distinct (map (λ f. f.tag) g.block.fields)) gs)
 groups_iff [] n o = ((λ _. (tt, tt)), (λ _. tt))
 groups_iff (g ∷ gs) n o =
     let r = groups_iff gs (suc n) (g.tag ∷ o) in

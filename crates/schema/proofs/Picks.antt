@@ -1,6 +1,6 @@
 -- Some of a list in their order: what a list keeps where elements are left out.
 use Rattle.std.proofs.Common.{◌≡◌, ℕ, ◌≤◌, List, [], ◌∷◌, ◌++◌, map, length, sym, refl, ◌∙◌, arith, length-append}
-use Rattle.std.specs.List.{flat_map, AllByRecursion as All}
+use Rattle.std.specs.List.{flat_map, AllByRecursion}
 use Rattle.schema.specs.WellFormed.{Distinct}
 
 -- xs are some of ys in their order, each standing by R to the one whose place it takes
@@ -29,7 +29,7 @@ module _ {X Y : Type 0} {R : X → Y → Type 0} where
   picks_map S f g h (kept {x} {y} r p) = kept (h x y r) (picks_map S f g h p)
   picks_map S f g h (left p) = left (picks_map S f g h p)
 
-  pub picks_all : (P : Y → Type 0) (Q : X → Type 0) → ((x : X) (y : Y) → R x y → P y → Q x) → {xs : List X} {ys : List Y} → Picks R xs ys → All P ys → All Q xs
+  pub picks_all : (P : Y → Type 0) (Q : X → Type 0) → ((x : X) (y : Y) → R x y → P y → Q x) → {xs : List X} {ys : List Y} → Picks R xs ys → AllByRecursion P ys → AllByRecursion Q xs
   picks_all P Q h over a = tt
   picks_all P Q h (kept {x} {y} r p) a = (h x y r a.0, picks_all P Q h p a.1)
   picks_all P Q h (left p) a = picks_all P Q h p a.1

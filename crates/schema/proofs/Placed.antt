@@ -1,6 +1,6 @@
 -- A template's lines pass as to types and geometry exactly if each type is known and each field has its place.
 use Rattle.std.proofs.Common.{◌≡◌, ℕ, ◌+◌, ◌≤◌, true, ◌&&◌, leb, List, [], ◌∷◌, ◌++◌, map, Decides, sym, refl, subst}
-use Rattle.std.specs.List.{flat_map, AllByRecursion as All}
+use Rattle.std.specs.List.{flat_map, AllByRecursion}
 use Rattle.std.proofs.lemmas.Bool.Decides.{Decides-and}
 use Rattle.wire.specs.declared.refusal.Reason.TheVariants as reason
 use Rattle.wire.specs.Refusals.{refusal}
@@ -26,12 +26,12 @@ Measured d = (1 ≤ d.longest) × (d.longest ≤ 254)
 module _ (known : Known) (version : ℕ) where
   -- a block's fields have their places, as the block says them
   abbrev pub Laid : Block → Type 0
-  Laid b = All (Typed known) b.fields × Places known 0 b.size b.fields × Sinces version 0 (map (λ f. f.since) b.fields)
+  Laid b = AllByRecursion (Typed known) b.fields × Places known 0 b.size b.fields × Sinces version 0 (map (λ f. f.since) b.fields)
 
   pub record GoodPlaces (t : Template) : Type 0 where
     pub root : Laid t.root
-    pub groups : All (λ g. (g.block.size ≤ 16372) × Laid g.block) t.groups
-    pub parts : All Measured t.parts
+    pub groups : AllByRecursion (λ g. (g.block.size ≤ 16372) × Laid g.block) t.groups
+    pub parts : AllByRecursion Measured t.parts
     pub part_sinces : Sinces version 0 (map (λ d. d.since) t.parts)
 
   decides_since : (before since : ℕ) → Decides (since_fits version before since) ((before ≤ since) × (since ≤ version))
@@ -49,7 +49,7 @@ module _ (known : Known) (version : ℕ) where
   Placed taken since size [] = Unit {0}
   Placed taken since size (f ∷ fs) = PlacedField taken since size f × Placed (field_end known f) f.since size fs
 
-  placed_iff : (fs : List Field) (taken since size : ℕ) → Iff (Placed taken since size fs) (All (Typed known) fs × Places known taken size fs × Sinces version since (map (λ f. f.since) fs))
+  placed_iff : (fs : List Field) (taken since size : ℕ) → Iff (Placed taken since size fs) (AllByRecursion (Typed known) fs × Places known taken size fs × Sinces version since (map (λ f. f.since) fs))
   placed_iff [] taken since size = ((λ _. (tt, tt, tt)), (λ _. tt))
   placed_iff (f ∷ fs) taken since size =
       let r = placed_iff fs (field_end known f) f.since size in (
@@ -79,7 +79,7 @@ module _ (known : Known) (version : ℕ) where
   PlacedGroups [] = Unit {0}
   PlacedGroups (g ∷ gs) = ((g.block.size ≤ 16372) × Placed 0 0 g.block.size g.block.fields) × PlacedGroups gs
 
-  groups_iff : (gs : List Group) → Iff (PlacedGroups gs) (All (λ g. (g.block.size ≤ 16372) × Laid g.block) gs)
+  groups_iff : (gs : List Group) → Iff (PlacedGroups gs) (AllByRecursion (λ g. (g.block.size ≤ 16372) × Laid g.block) gs)
   groups_iff [] = ((λ _. tt), (λ _. tt))
   groups_iff (g ∷ gs) =
       let x = placed_iff g.block.fields 0 0 g.block.size in
@@ -104,7 +104,7 @@ module _ (known : Known) (version : ℕ) where
   PlacedParts since [] = Unit {0}
   PlacedParts since (d ∷ ds) = (Measured d × ((since ≤ d.since) × (d.since ≤ version))) × PlacedParts d.since ds
 
-  parts_iff : (ds : List Data) (since : ℕ) → Iff (PlacedParts since ds) (All Measured ds × Sinces version since (map (λ d. d.since) ds))
+  parts_iff : (ds : List Data) (since : ℕ) → Iff (PlacedParts since ds) (AllByRecursion Measured ds × Sinces version since (map (λ d. d.since) ds))
   parts_iff [] since = ((λ _. (tt, tt)), (λ _. tt))
   parts_iff (d ∷ ds) since =
       let r = parts_iff ds d.since in (

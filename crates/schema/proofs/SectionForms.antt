@@ -1,6 +1,6 @@
 -- A section written out is the section that its bytes begin with, and back.
 use Rattle.std.proofs.Common.{◌≡◌, ℕ, zero, suc, ◌+◌, ◌-◌, ◌^◌, ◌<◌, ◌≤◌, true, ◌&&◌, leb, List, [], ◌∷◌, ◌++◌, map, length, take, drop, Some, None, refl, ap, ◌∙◌, ap₂, arith, length-append, length-drop}
-use Rattle.std.specs.List.{flat_map, AllByRecursion as All}
+use Rattle.std.specs.List.{flat_map, AllByRecursion}
 use Rattle.std.proofs.lemmas.List.{take_at, take-take, take-append-drop, length-take-le}
 use Rattle.std.proofs.ByRecursion.{All-drop, All-take}
 use Rattle.std.proofs.lemmas.Bool.{leb-true, le-leb, and_parts, and_from, cond_both}
@@ -85,7 +85,7 @@ sections_cut (suc n) [] = refl
 sections_cut (suc n) (b ∷ s) = λ i. onward (first_section (b ∷ s)) (λ t. sections_cut n (drop (section_size t) (b ∷ s)) i)
 
 -- sections written out are cut into the same sections
-pub sections_are : (ts : List Section) → All FitSection ts → sections (flat_map section_bytes ts) ≡ map Some ts
+pub sections_are : (ts : List Section) → AllByRecursion FitSection ts → sections (flat_map section_bytes ts) ≡ map Some ts
 unfolding sections
 sections_are ts h =
     sections_cut (length (flat_map section_bytes ts)) (flat_map section_bytes ts)

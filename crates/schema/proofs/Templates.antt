@@ -1,6 +1,6 @@
 -- Sections pass exactly if they are good templates written out, and they are read as those.
 use Rattle.std.proofs.Common.{◌≡◌, ℕ, suc, ◌+◌, ◌^◌, ◌<◌, ◌≤◌, ◌&&◌, leb, List, [], ◌∷◌, ◌++◌, map, length, Some, None, Option, sym, refl, ap, ◌∙◌, subst, ap₂, add-one, arith, length-append}
-use Rattle.std.specs.List.{flat_map, AllByRecursion as All}
+use Rattle.std.specs.List.{flat_map, AllByRecursion}
 use Rattle.std.proofs.ByRecursion.{All-append}
 use Rattle.std.proofs.lemmas.Bool.Decides.{Decides-and}
 use Rattle.wire.specs.Bytes.{Bytes}
@@ -33,7 +33,7 @@ pub templates_sections : (ts : List Template) → templates_bytes ts ≡ flat_ma
 templates_sections [] = refl
 templates_sections (t ∷ ts) = ap (λ u. template_bytes t ++ u) (templates_sections ts)
 
-lines_are_bytes : (ls : List Line) → All FitLine ls → Bytes (lines_bytes ls)
+lines_are_bytes : (ls : List Line) → AllByRecursion FitLine ls → Bytes (lines_bytes ls)
 lines_are_bytes [] h = tt
 lines_are_bytes (l ∷ ls) h = All-append (λ b. b < 256) (line_bytes l) (lines_bytes ls) (line_is_bytes l h.0) (lines_are_bytes ls h.1)
 
@@ -54,7 +54,7 @@ module _ (known : Known) (version : ℕ) where
       let head = (head_iff q t).0 g.0 in
       let names = (names_iff (template_of t) p).0 (subst (λ (ms : List Line). lines_shape nothing_above p (map Some ms) ≡ fine) o e) in
       let places = (places_iff known version (template_of t) (q + 8)).0 (subst (λ (ms : List Line). lines_geometry known version (block_ground t.size 0) (q + 8) ms ≡ fine) o g.1) in (
-        good_template known version (template_of t) fit.1 head.0 head.1 names places (subst (All FitLine) o made.1),
+        good_template known version (template_of t) fit.1 head.0 head.1 names places (subst (AllByRecursion FitLine) o made.1),
         (λ i. record { number = t.number; since = t.since; size = t.size; body = (ap lines_bytes (sym o) ∙ made.0) i }),
       )
 
@@ -107,10 +107,10 @@ module _ (known : Known) (version : ℕ) where
   -- sections that pass are good templates, and are those written out
   pub record MadeOf (least : ℕ) (ts : List Section) : Type 0 where
     pub numbers : Numbered least (map template_of ts)
-    pub good : All (GoodTemplate known version) (map template_of ts)
+    pub good : AllByRecursion (GoodTemplate known version) (map template_of ts)
     pub same : map section_for (map template_of ts) ≡ ts
 
-  pub made_of : (least p q : ℕ) (ts : List Section) → All FitSection ts → sections_shape least p (map Some ts) ≡ fine → sections_geometry known version q ts ≡ fine → MadeOf least ts
+  pub made_of : (least p q : ℕ) (ts : List Section) → AllByRecursion FitSection ts → sections_shape least p (map Some ts) ≡ fine → sections_geometry known version q ts ≡ fine → MadeOf least ts
   made_of least p q [] f e g = record { numbers = tt; good = tt; same = refl }
   made_of least p q (t ∷ ts) f e g =
       let x = each_section least p t (map Some ts) e in
@@ -121,12 +121,12 @@ module _ (known : Known) (version : ℕ) where
 
   -- good templates written out pass, and are read back
   pub record Written (least : ℕ) (ts : List Template) : Type 0 where
-    pub fits : All FitSection (map section_for ts)
+    pub fits : AllByRecursion FitSection (map section_for ts)
     pub same : map template_of (map section_for ts) ≡ ts
     pub shape : (p : ℕ) → sections_shape least p (map Some (map section_for ts)) ≡ fine
     pub geometry : (p : ℕ) → sections_geometry known version p (map section_for ts) ≡ fine
 
-  pub written : (least : ℕ) (ts : List Template) → version < 2 ^ 16 → length (templates_bytes ts) < 2 ^ 16 → Numbered least ts → All (GoodTemplate known version) ts → Written least ts
+  pub written : (least : ℕ) (ts : List Template) → version < 2 ^ 16 → length (templates_bytes ts) < 2 ^ 16 → Numbered least ts → AllByRecursion (GoodTemplate known version) ts → Written least ts
   written least [] v l n h = record { fits = tt; same = refl; shape = λ p. refl; geometry = λ p. refl }
   written least (t ∷ ts) v l n h =
       let long : length (template_bytes t) + length (templates_bytes ts) < 2 ^ 16 = rw length-append at l in

@@ -1,6 +1,6 @@
 -- A well-formed dictionary is written out in bytes.
 use Rattle.std.proofs.Common.{ℕ, ◌+◌, ◌<◌, List, [], ◌∷◌, ◌++◌, map, length, arith}
-use Rattle.std.specs.List.{flat_map, AllByRecursion as All}
+use Rattle.std.specs.List.{flat_map, AllByRecursion}
 use Rattle.std.proofs.ByRecursion.{All-append, All-map, All-weaker}
 use Rattle.wire.specs.Bytes.{Bytes}
 use Rattle.wire.specs.Numbers.{be_bytes}
@@ -11,7 +11,7 @@ use Rattle.schema.specs.Lines.{Line, field, group, end, part}
 use Rattle.schema.specs.Writing.{line_bytes, group_lines, template_lines, template_body, template_bytes, templates_bytes, dictionary_bytes}
 use Rattle.schema.specs.WellFormed.{GoodField, GoodBlock, GoodGroup, GoodData, GoodTemplate, WellFormed}
 
-pub all_joined : {X A : Type 0} (P : A → Type 0) (f : X → List A) (xs : List X) → All (λ x. All P (f x)) xs → All P (flat_map f xs)
+pub all_joined : {X A : Type 0} (P : A → Type 0) (f : X → List A) (xs : List X) → AllByRecursion (λ x. AllByRecursion P (f x)) xs → AllByRecursion P (flat_map f xs)
 all_joined P f [] h = tt
 all_joined P f (x ∷ xs) h = All-append P (f x) (flat_map f xs) h.0 (all_joined P f xs h.1)
 
@@ -41,18 +41,18 @@ part_bytes d g =
     (omega arith, (omega arith, number_first 4 d.tag (be_bytes 2 d.since ++ (d.longest ∷ [])) (number_first 2 d.since (d.longest ∷ []) (omega arith, tt))))
 
 module _ (known : Known) (version : ℕ) where
-  fields_bytes : (b : Block) → GoodBlock known version b → All InBytes (map field b.fields)
+  fields_bytes : (b : Block) → GoodBlock known version b → AllByRecursion InBytes (map field b.fields)
   fields_bytes b g = All-map InBytes field b.fields (All-weaker (GoodField known) (λ f. InBytes (field f)) (field_bytes known) b.fields g.fields)
 
-  group_lines_bytes : (g : Group) → GoodGroup known version g → All InBytes (group_lines g)
+  group_lines_bytes : (g : Group) → GoodGroup known version g → AllByRecursion InBytes (group_lines g)
   group_lines_bytes g h =
       (group_bytes g.tag g.block.size, All-append InBytes (map field g.block.fields) (end ∷ []) (fields_bytes g.block h.block) ((omega arith, (omega arith, tt)), tt))
 
-  template_lines_bytes : (t : Template) → GoodTemplate known version t → All InBytes (template_lines t)
+  template_lines_bytes : (t : Template) → GoodTemplate known version t → AllByRecursion InBytes (template_lines t)
   template_lines_bytes t g =
       All-append InBytes (map field t.root.fields) _ (fields_bytes t.root g.root)
       (All-append InBytes (flat_map group_lines t.groups) _
-      (all_joined InBytes group_lines t.groups (All-weaker (GoodGroup known version) (λ h. All InBytes (group_lines h)) group_lines_bytes t.groups g.groups))
+      (all_joined InBytes group_lines t.groups (All-weaker (GoodGroup known version) (λ h. AllByRecursion InBytes (group_lines h)) group_lines_bytes t.groups g.groups))
       (All-map InBytes part t.parts (All-weaker GoodData (λ d. InBytes (part d)) part_bytes t.parts g.parts)))
 
   template_in_bytes : (t : Template) → GoodTemplate known version t → Bytes (template_bytes t)

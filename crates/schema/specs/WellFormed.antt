@@ -1,6 +1,6 @@
 -- When a dictionary is well formed, said of what it says and not of its bytes. Assumes nothing.
 use Rattle.std.specs.Prelude.{◌≡◌, ℕ, ◌+◌, ◌^◌, ◌<◌, ◌≤◌, List, [], ◌∷◌, ◌++◌, map, length, Some, ◌≢◌}
-use Rattle.std.specs.List.{AllByRecursion as All}
+use Rattle.std.specs.List.{AllByRecursion}
 use Rattle.wire.specs.Bytes.{Bytes}
 use Rattle.types.specs.Kinds.{Kind, Known}
 use Rattle.schema.specs.Structure.{Field, Block, Group, Data, Template, Dictionary}
@@ -10,7 +10,7 @@ use Rattle.schema.specs.Writing.{dictionary_bytes}
 -- tags that differ from one another and from 0
 abbrev pub Distinct : List ℕ → Type 0
 Distinct [] = Unit {0}
-Distinct (t ∷ ts) = ((t ≢ 0) × All (λ u. u ≢ t) ts) × Distinct ts
+Distinct (t ∷ ts) = ((t ≢ 0) × AllByRecursion (λ u. u ≢ t) ts) × Distinct ts
 
 -- since does not fall, from what is given on, and none is above the version
 abbrev pub Sinces : ℕ → ℕ → List ℕ → Type 0
@@ -38,7 +38,7 @@ module _ (known : Known) where
   pub record GoodBlock (version : ℕ) (b : Block) : Type 0 where
     pub size_fits : b.size ≤ 16372
     pub few : length b.fields ≤ 64
-    pub fields : All GoodField b.fields
+    pub fields : AllByRecursion GoodField b.fields
     pub places : Places 0 b.size b.fields
     pub sinces : Sinces version 0 (map (λ f. f.since) b.fields)
 
@@ -63,9 +63,9 @@ module _ (known : Known) (version : ℕ) where
     pub number_fits : t.number < 2 ^ 16
     pub since : t.since ≤ version
     pub root : GoodBlock known version t.root
-    pub groups : All (GoodGroup known version) t.groups
+    pub groups : AllByRecursion (GoodGroup known version) t.groups
     pub few_groups : length t.groups ≤ 8
-    pub parts : All GoodData t.parts
+    pub parts : AllByRecursion GoodData t.parts
     pub few_parts : length t.parts ≤ 8
     pub part_sinces : Sinces version 0 (map (λ d. d.since) t.parts)
     pub tags : Distinct (outer_tags t)
@@ -80,5 +80,5 @@ pub record WellFormed (known : Known) (d : Dictionary) : Type 0 where
   pub schema_fits : d.schema < 2 ^ 16
   pub version_fits : d.version < 2 ^ 16
   pub numbers : Numbered 0 d.templates
-  pub templates : All (GoodTemplate known d.version) d.templates
+  pub templates : AllByRecursion (GoodTemplate known d.version) d.templates
   pub short : length (dictionary_bytes d) ≤ 32000

@@ -1,6 +1,6 @@
 -- A template whose types and geometry are right has blocks that blanks can be written to, as they are seen at any version.
 use Rattle.std.proofs.Common.{◌≡◌, ℕ, ◌+◌, List, [], ◌∷◌, map, Ok, ap, ⊎_elim}
-use Rattle.std.specs.List.{AllByRecursion as All}
+use Rattle.std.specs.List.{AllByRecursion}
 use Rattle.std.proofs.lemmas.Bool.Decides.{eqb_tells}
 use Rattle.types.specs.Kinds.{Known, AllLawful}
 use Rattle.schema.specs.Verdicts.{fine}
@@ -24,13 +24,13 @@ module _ (known : Known) where
   -- the root and each group's block take blanks
   pub record FittingTemplate (t : Template) : Type 0 where
     pub root : FittingBlock t.root
-    pub groups : All (λ g. FittingBlock g.block) t.groups
+    pub groups : AllByRecursion (λ g. FittingBlock g.block) t.groups
 
   fields_fit : (at : ℕ) (fs : List Field) (size : ℕ) → Fits at (map (slot_of known) fs) size → LawfulSlots (map (slot_of known) fs) → Fitting known at fs size
   fields_fit at [] size h k = h
   fields_fit at (f ∷ fs) size h k = (h.0, ap is_known k.0.is, fields_fit (field_end known f) fs size h.2 k.1)
 
-  groups_fit : (gs : List Group) → AllSized (map (group_view known) gs) → All (λ g. LawfulSlots g.block.slots) (map (group_view known) gs) → All (λ g. FittingBlock g.block) gs
+  groups_fit : (gs : List Group) → AllSized (map (group_view known) gs) → AllByRecursion (λ g. LawfulSlots g.block.slots) (map (group_view known) gs) → AllByRecursion (λ g. FittingBlock g.block) gs
   groups_fit [] h k = tt
   groups_fit (g ∷ gs) h k = (fields_fit 0 g.block.fields g.block.size h.0.0 k.0, groups_fit gs h.1 k.1)
 
@@ -46,7 +46,7 @@ module _ (known : Known) where
       }
 
   module _ (u : ℕ) (bs : List ℕ) where
-    group_at_fits : (p tag : ℕ) (gs : List Group) → All (λ g. FittingBlock g.block) (map (seen_group u) gs) → IfFound (λ g. FittingBlock g.group.block) (group_at u bs p gs tag)
+    group_at_fits : (p tag : ℕ) (gs : List Group) → AllByRecursion (λ g. FittingBlock g.block) (map (seen_group u) gs) → IfFound (λ g. FittingBlock g.group.block) (group_at u bs p gs tag)
     group_at_fits p tag [] h = tt
     group_at_fits p tag (g ∷ gs) h = ⊎_elim (λ a. rw a.0 h.0) (λ a. rw a.0 (group_at_fits (p + group_span u bs p g) tag gs h.1)) (eqb_tells g.tag tag)
 

@@ -1,6 +1,6 @@
 -- What a call on a form goes by: the message that the buffer begins with, where it stands, and what other contents of it leave of the buffer.
 use Rattle.std.proofs.Common.{◌≡◌, ℕ, ◌+◌, ◌-◌, ◌≤◌, Bool, true, false, cond, ◌&&◌, leb, List, [], ◌∷◌, ◌++◌, length, take, drop, Some, None, Ok, Err, Option, Result, sym, refl, ap, ◌∙◌, subst, ap₂, append_assoc, arith, length-append, take-append-drop}
-use Rattle.std.specs.List.{AllByRecursion as All}
+use Rattle.std.specs.List.{AllByRecursion}
 use Rattle.std.proofs.lemmas.Bool.{le-leb, and_from}
 use Rattle.wire.specs.declared.refusal.Reason.TheVariants as reason
 use Rattle.wire.specs.declared.refusal.Refusal.{Refusal}
@@ -40,7 +40,7 @@ slots_lawful : (fs : List Slot) → sound.LawfulSlots fs → LawfulSlots fs
 slots_lawful [] h = tt
 slots_lawful (f ∷ fs) h = (record { kind = h.0.kind; is = h.0.is; lawful = h.0.laws }, slots_lawful fs h.1)
 
-groups_lawful : (gs : List GroupView) → All (λ g. sound.LawfulSlots g.block.slots) gs → All (λ g. LawfulSlots g.block.slots) gs
+groups_lawful : (gs : List GroupView) → AllByRecursion (λ g. sound.LawfulSlots g.block.slots) gs → AllByRecursion (λ g. LawfulSlots g.block.slots) gs
 groups_lawful [] h = tt
 groups_lawful (g ∷ gs) h = (slots_lawful g.block.slots h.0, groups_lawful gs h.1)
 

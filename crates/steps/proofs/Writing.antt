@@ -1,6 +1,6 @@
 -- Writing a data: what is done to the bytes is what the call says.
 use Rattle.std.proofs.Common.{◌≡◌, ℕ, ◌+◌, ◌-◌, ◌%◌, ◌^◌, ◌<◌, ◌≤◌, leb, List, [], ◌∷◌, ◌++◌, length, take, drop, Some, Ok, Err, Result, refl, ap, ◌∙◌, ⊎_elim, arith}
-use Rattle.std.specs.List.{AllByRecursion as All}
+use Rattle.std.specs.List.{AllByRecursion}
 use Rattle.std.proofs.lemmas.Bool.{cases_Bool, leb-true}
 use Rattle.std.proofs.lemmas.Bool.Decides.{eqb_tells}
 use Rattle.wire.specs.declared.refusal.Reason.TheVariants as reason
@@ -28,7 +28,7 @@ use Rattle.steps.proofs.Moved.{regroup, regrouped_long, written_in}
 
 -- ---- a data with a length of one byte
 
-part_one : (from tag : ℕ) (ds : List DataView) (xs : List (List ℕ)) → All (λ d. d.prefix ≡ 1) ds → IfFound (λ d. d.part.prefix ≡ 1) (part_in from ds xs tag)
+part_one : (from tag : ℕ) (ds : List DataView) (xs : List (List ℕ)) → AllByRecursion (λ d. d.prefix ≡ 1) ds → IfFound (λ d. d.part.prefix ≡ 1) (part_in from ds xs tag)
 part_one from tag [] xs h = tt
 part_one from tag (d ∷ ds) [] h = tt
 part_one from tag (d ∷ ds) (x ∷ xs) h = ⊎_elim (λ a. rw a.0 h.0) (λ a. rw a.0 (part_one (from + length (part_bytes d x)) tag ds xs h.1)) (eqb_tells d.tag tag)

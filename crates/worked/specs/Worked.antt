@@ -1,6 +1,5 @@
 -- The worked examples: a dictionary of 100 bytes, and frames under it. Assumes nothing.
-use Rattle.std.specs.Prelude.{◌≡◌, ℕ, Bool, true, false, List, [], ◌∷◌, replicate, Some, Ok, Err, Result}
-use Rattle.std.proofs.Math.ListN as list
+use Rattle.std.specs.Prelude.{◌≡◌, ℕ, Bool, true, false, List, [], ◌∷◌, replicate, slice_set, Some, Ok, Err, Result}
 use Rattle.wire.specs.declared.refusal.Reason.TheVariants as reason
 use Rattle.wire.specs.declared.refusal.Refusal.{Refusal}
 use Rattle.wire.specs.Refusals.{refusal, plain}
@@ -29,7 +28,7 @@ older = 28 ∷ 0 ∷ 80 ∷ 235 ∷ 8 ∷ 0 ∷ 7 ∷ 0 ∷ 1 ∷ 0 ∷ 4 ∷ 0 
 
 -- the frame with another byte at a place
 abbrev pub altered : ℕ → ℕ → List ℕ
-altered place byte = list.set newest place byte
+altered place byte = slice_set newest place byte
 
 -- what both say: 5, 49, absent and, where it is there, 300; one entry with 100; the data OK
 abbrev pub values : List Meaning → Contents
