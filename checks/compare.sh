@@ -8,15 +8,16 @@ count=${1:-20000}
 seed=${2:-1}
 . "$(dirname "$0")/copy.sh"
 guide="examples/guide/dictionary.bin crates/dictionary_cases/data/guide-v4.bin crates/dictionary_cases/data/guide-v5.bin"
-cp -r compare/compared crates/compared
-printf 'compared: wire types numbers text base schema message calls dictionary form replay\n' >> crates.txt
 
-rt check listing editions
-rt staticlib gateway
-rt staticlib compared
+built listing editions
+archived gateway compared
+mkdir -p programs archives
+cp crates/listing/out/listing crates/editions/out/editions programs/
+cp crates/gateway/out/libgateway.a crates/compared/out/libcompared.a archives/
+export STATICLIB="$PWD/archives"
 (cd compare && cargo test --quiet --offline && cargo build --quiet --release --offline --features gateway,compared)
 compare/target/release/alone "$seed" "$count" >/dev/null
 compare/target/release/compare-gateway "$seed" "$count" $guide
-compare/target/release/compare-programs "$seed" $((count / 50)) target/bin $guide
+compare/target/release/compare-programs "$seed" $((count / 50)) programs $guide
 compare/target/release/compare-forms "$seed" "$count" $guide
 echo "compare: no difference"

@@ -4,10 +4,10 @@
 set -eu
 cd "$(dirname "$0")/.."
 
-rt staticlib gateway
+(cd crates/gateway && rt lib >/dev/null)
 work=$(mktemp -d)
 trap 'rm -rf "$work"' EXIT
-gcc -std=c99 -Wall -Wextra -Werror -Iinclude -o "$work/gateway" examples/gateway.c target/staticlib/libgateway.a
+gcc -std=c99 -Wall -Wextra -Werror -Iinclude -o "$work/gateway" examples/gateway.c crates/gateway/out/libgateway.a
 
 # the samples, and with them a frame that is cut off, one with another encoding, and no bytes
 cp examples/data/*.bin "$work"

@@ -1,15 +1,13 @@
 #!/usr/bin/env bash
-# Shows that the calls allocate nothing: the static libraries of `gateway` (check, accept, find) and of compare/compared (the
+# Shows that the calls allocate nothing: the static libraries of `gateway` (check, accept, find) and of `compared` (the
 # cutter, and all calls on forms) ask the linker for no function that hands out or takes back memory. It prints what they
 # do ask for. It works on a copy of the committed repository. Run from the repository's root.
 set -eu
 . "$(dirname "$0")/copy.sh"
-cp -r compare/compared crates/compared
-printf 'compared: wire types numbers text base schema message calls dictionary form replay\n' >> crates.txt
 allocates=0
 for name in gateway compared; do
-  rt staticlib "$name" >/dev/null
-  asked=$(nm -u "target/staticlib/lib$name.a" | awk 'NF == 2 { print $2 }' | sort -u | tr '\n' ' ')
+  archived "$name"
+  asked=$(nm -u "crates/$name/out/lib$name.a" | awk 'NF == 2 { print $2 }' | sort -u | tr '\n' ' ')
   echo "lib$name.a asks for: ${asked:-nothing}"
   if printf '%s\n' $asked | grep -E '^(malloc|calloc|realloc|reallocarray|free|aligned_alloc|posix_memalign|mmap|sbrk|brk)$'; then
     allocates=1

@@ -20,7 +20,7 @@ if text.count(old) != 1:
 open(path, 'w', encoding='utf-8').write(text.replace(old, new))
 PY
     then survived=1; continue; fi
-    out=$(rt dev "$crate" 2>&1)
+    out=$(cd "crates/$crate" && rt check 2>&1)
     if printf '%s\n' "$out" | grep -q "^logic=not-proved"; then
       fact=$(printf '%s\n' "$out" | grep -m 1 -E '^fn .*: (no proof|not proved)' | cut -c1-200)
       echo "refused: $edit: $fact"

@@ -15,7 +15,7 @@ taken=0
 # what it shows, the error, and the program on standard input
 try() {
   cat > crates/trial/src/lib.rt
-  out=$(rt dev trial 2>&1)
+  out=$(cd crates/trial && rt check 2>&1)
   if printf '%s\n' "$out" | grep -E "error\[$2\]" | head -n 1; then
     echo "rejected: $1"
   else

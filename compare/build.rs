@@ -5,7 +5,7 @@ use std::path::PathBuf;
 
 fn main() {
     let here = PathBuf::from(env::var_os("CARGO_MANIFEST_DIR").expect("cargo sets it"));
-    let libraries = env::var_os("STATICLIB").map_or_else(|| here.join("../target/staticlib"), PathBuf::from);
+    let libraries = env::var_os("STATICLIB").map_or_else(|| here.join("archives"), PathBuf::from);
     println!("cargo:rerun-if-env-changed=STATICLIB");
     for (feature, program, library) in [
         ("CARGO_FEATURE_GATEWAY", "compare-gateway", "libgateway.a"),
