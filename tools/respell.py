@@ -2,8 +2,8 @@
 """Spells the repository's own names in antt as today's Rattle spells its own.
 
 Run once at the top of a repository that port.py has turned. In specs/ and proofs/ of every crate it collects the names that
-are declared there (definitions, constructors, fields and lemmas, not the answers of generated goals) and have a dash.
-A word goes to snake case (le-value: le_value), a type or a fact to camel case (Makes-up: MakesUp). Five facts would then
+are declared there (definitions, constructors, fields and lemmas, not the answers of generated goals) and have a dash, or, of a
+fact that port.py took for a word, an underscore. A word goes to snake case (le-value: le_value), a type or a fact to camel case (Makes-up: MakesUp). Five facts would then
 have the name of a struct of src/; they get `Is` in front, as facts that are nouns have.
 
 It replaces whole names, in .antt files everywhere, in .rt files in `ghost` items and clauses, and in .edit files. Comments
@@ -64,7 +64,7 @@ def declared():
                     names |= set(bound(line))
                 if line.startswith("use "):
                     names |= set(re.findall(r" as ([^\s,}]+)", line))
-    return {n for n in names if re.fullmatch(r"[A-Za-z][\w']*(-[\w']+)+", n)} - foreign()
+    return {n for n in names if re.fullmatch(r"[A-Za-z][\w']*(-[\w']+)+|[A-Z][\w']*_[\w']+", n)} - foreign()
 
 
 def foreign():
@@ -82,7 +82,7 @@ def foreign():
 
 def spelled(name):
     if name[0].isupper():
-        joined = "".join(w[0].upper() + w[1:] for w in name.split("-"))
+        joined = "".join(w[0].upper() + w[1:] for w in re.split("[-_]", name))
         return "Is" + joined if name in STRUCTS else joined
     return name.replace("-", "_")
 

@@ -18,7 +18,7 @@ use Rattle.message.specs.Blocks.{block_verdict}
 use Rattle.message.specs.Frames.{entry_length, entry_count, group_length, content_length, part_length, content_of, length_fits, count_fits, entries_verdict, group_verdict, groups_verdict, parts_verdict, contents_verdict, groups_length}
 use Rattle.message.specs.Messages.{block_view, group_view, data_view, view_of, contents_by, contents_read_by, stated_root, stated_version, verdict_when}
 use Rattle.message.specs.Lookup.{groups_end}
-use Rattle.message.specs.Walks.{Item, place_of, bytes_of, block_items, entries_items, groups_items, parts_items, items_by, items_in, Laid_out, filled_out, told_template}
+use Rattle.message.specs.Walks.{Item, place_of, bytes_of, block_items, entries_items, groups_items, parts_items, items_by, items_in, LaidOut, filled_out, told_template}
 use Rattle.message.specs.Laws.{WalkedThrough}
 use Rattle.message.proofs.Verdicts.{both, told}
 use Rattle.message.proofs.Lookups.{behind_groups}
@@ -28,20 +28,20 @@ use Rattle.message.proofs.FrameReading.{contents_passed, template_of_frame}
 module _ (bs : List ℕ) where
   -- ---- items that follow one another
 
-  laid_before : (o p q : ℕ) (is : List Item) → o ≤ p → Laid_out bs p q is → Laid_out bs o q is
+  laid_before : (o p q : ℕ) (is : List Item) → o ≤ p → LaidOut bs p q is → LaidOut bs o q is
   laid_before o p q [] l h = omega arith
   laid_before o p q (i ∷ is) l h = let k = h.0 in (omega arith, h.1, h.2)
 
-  laid_further : (p q r : ℕ) (is : List Item) → q ≤ r → Laid_out bs p q is → Laid_out bs p r is
+  laid_further : (p q r : ℕ) (is : List Item) → q ≤ r → LaidOut bs p q is → LaidOut bs p r is
   laid_further p q r [] l h = omega arith
   laid_further p q r (i ∷ is) l h = (h.0, h.1, laid_further (place_of i + length (bytes_of i)) q r is l h.2)
 
-  laid_on : (p q r : ℕ) (is js : List Item) → Laid_out bs p q is → Laid_out bs q r js → Laid_out bs p r (is ++ js)
+  laid_on : (p q r : ℕ) (is js : List Item) → LaidOut bs p q is → LaidOut bs q r js → LaidOut bs p r (is ++ js)
   laid_on p q r [] js h k = laid_before p q r js h k
   laid_on p q r (i ∷ is) js h k = (h.0, h.1, laid_on (place_of i + length (bytes_of i)) q r is js h.2 k)
 
   -- with the bytes between them they make up the bytes from where they begin
-  pub made_up : (p q : ℕ) (is : List Item) → Laid_out bs p q is → filled_out bs p is ≡ drop p bs
+  pub made_up : (p q : ℕ) (is : List Item) → LaidOut bs p q is → filled_out bs p is ≡ drop p bs
   made_up p q [] h = refl
   made_up p q (i ∷ is) h =
       let n = length (bytes_of i) in
@@ -61,7 +61,7 @@ module _ (bs : List ℕ) where
 
   -- ---- data
 
-  parts_laid : (newer : Bool) (ds : List Data) (p q : ℕ) (rest : List ℕ) → rest ≡ drop q bs → q ≤ length bs → parts_verdict newer (map data_view ds) p rest ≡ fine → Laid_out bs q (length bs) (parts_items bs q ds)
+  parts_laid : (newer : Bool) (ds : List Data) (p q : ℕ) (rest : List ℕ) → rest ≡ drop q bs → q ≤ length bs → parts_verdict newer (map data_view ds) p rest ≡ fine → LaidOut bs q (length bs) (parts_items bs q ds)
   parts_laid newer [] p q rest is l e = l
   parts_laid newer (d ∷ ds) p q rest is l e =
       let w = d.prefix in
@@ -79,12 +79,12 @@ module _ (bs : List ℕ) where
       let size : length (content_of w (drop q bs)) ≡ n = ap length content ∙ asked n (q + w) (omega arith) in
       let own : content_of w (drop q bs) ≡ take (length (content_of w (drop q bs))) (drop (q + w) bs) = content ∙ ap (λ k. take k (drop (q + w) bs)) (sym size) in
       let behind : q + (w + n) ≡ q + w + length (content_of w (drop q bs)) = omega arith in
-      (omega arith, own, subst (λ k. Laid_out bs k (length bs) (parts_items bs (q + (w + n)) ds)) behind ih)
+      (omega arith, own, subst (λ k. LaidOut bs k (length bs) (parts_items bs (q + (w + n)) ds)) behind ih)
 
   module _ (known : Known) where
     -- ---- the fields of a block
 
-    fields_laid : (base at size : ℕ) (fs : List Field) → Places known at size fs → at ≤ size → base + size ≤ length bs → Laid_out bs (base + at) (base + size) (block_items known bs base fs)
+    fields_laid : (base at size : ℕ) (fs : List Field) → Places known at size fs → at ≤ size → base + size ≤ length bs → LaidOut bs (base + at) (base + size) (block_items known bs base fs)
     fields_laid base at size [] places l there = omega arith
     fields_laid base at size (f ∷ fs) places l there =
         let w = width_or_0 (kind_of known f) in
@@ -94,18 +94,18 @@ module _ (bs : List ℕ) where
         let ih = fields_laid base (field_end known f) size fs places.2 places.1 there in
         let long = asked w (base + f.offset) fits in
         let behind : base + field_end known f ≡ base + f.offset + length (take w (drop (base + f.offset) bs)) = omega arith in
-        (omega arith, own_bytes w (base + f.offset) fits, subst (λ k. Laid_out bs k (base + size) (block_items known bs base fs)) behind ih)
+        (omega arith, own_bytes w (base + f.offset) fits, subst (λ k. LaidOut bs k (base + size) (block_items known bs base fs)) behind ih)
 
-    block_laid : (base stride version : ℕ) (b : Block) → GoodBlock known version b → b.size ≤ stride → base + stride ≤ length bs → Laid_out bs base (base + stride) (block_items known bs base b.fields)
+    block_laid : (base stride version : ℕ) (b : Block) → GoodBlock known version b → b.size ≤ stride → base + stride ≤ length bs → LaidOut bs base (base + stride) (block_items known bs base b.fields)
     block_laid base stride version b g l there =
         let start : base + 0 ≡ base = omega arith in
         laid_further base (base + b.size) (base + stride) (block_items known bs base b.fields) (omega arith)
-        (subst (λ k. Laid_out bs k (base + b.size) (block_items known bs base b.fields)) start (fields_laid base 0 b.size b.fields g.places (omega arith) (omega arith)))
+        (subst (λ k. LaidOut bs k (base + b.size) (block_items known bs base b.fields)) start (fields_laid base 0 b.size b.fields g.places (omega arith) (omega arith)))
 
     -- ---- entries and groups
 
     entries_laid : (closed : Bool) (version stride t : ℕ) (b : Block) (n p q : ℕ) (rest : List ℕ) → GoodBlock known version b → b.size ≤ stride → rest ≡ drop q bs → q ≤ length bs →
-        entries_verdict closed (block_view known b) stride t n p rest ≡ fine → (q + n * stride ≤ length bs) × Laid_out bs q (q + n * stride) (entries_items known bs b.fields stride n q)
+        entries_verdict closed (block_view known b) stride t n p rest ≡ fine → (q + n * stride ≤ length bs) × LaidOut bs q (q + n * stride) (entries_items known bs b.fields stride n q)
     entries_laid closed version stride t b zero p q rest g wide is l e = (rw zero-mul (omega arith), rw zero-mul (omega arith))
     entries_laid closed version stride t b (suc n) p q rest g wide is l e =
         let v = told (leb stride (length rest)) _ _ e in
@@ -118,7 +118,7 @@ module _ (bs : List ℕ) where
         let first = ih.0 in
         let ends : q + stride + n * stride ≡ q + suc n * stride = rw suc-mul (omega arith) in (
           subst (λ k. k ≤ length bs) ends first,
-          subst (λ k. Laid_out bs q k (block_items known bs q b.fields ++ entries_items known bs b.fields stride n (q + stride))) ends
+          subst (λ k. LaidOut bs q k (block_items known bs q b.fields ++ entries_items known bs b.fields stride n (q + stride))) ends
               (laid_on q (q + stride) (q + stride + n * stride) (block_items known bs q b.fields) (entries_items known bs b.fields stride n (q + stride)) (block_laid q stride version b g wide fits) ih.1),
         )
 
@@ -127,7 +127,7 @@ module _ (bs : List ℕ) where
     wide_enough false given own e = let k = eqb-true given own e in omega arith
 
     groups_laid : (closed newer : Bool) (version : ℕ) (gs : List Group) (p q : ℕ) (rest : List ℕ) → AllByRecursion (GoodGroup known version) gs → rest ≡ drop q bs → q ≤ length bs →
-        groups_verdict closed newer (map (group_view known) gs) p rest ≡ fine → (groups_end bs q gs ≤ length bs) × Laid_out bs q (groups_end bs q gs) (groups_items known bs q gs)
+        groups_verdict closed newer (map (group_view known) gs) p rest ≡ fine → (groups_end bs q gs ≤ length bs) × LaidOut bs q (groups_end bs q gs) (groups_items known bs q gs)
     groups_laid closed newer version [] p q rest h is l e = (l, omega arith)
     groups_laid closed newer version (g ∷ gs) p q rest h is l e =
         let b = g.block in
@@ -151,13 +151,13 @@ module _ (bs : List ℕ) where
         let ih = groups_laid closed newer version gs (p + group_length rest) q2 (drop (group_length rest) rest) h.1 next inside v.1 in
         let size = asked 3 q fits in
         let behind : q + 3 ≡ q + length (take 3 (drop q bs)) = omega arith in
-        let items = laid_on (q + 3) q2 (groups_end bs q2 gs) (entries_items known bs b.fields stride n (q + 3)) (groups_items known bs q2 gs) (subst (λ k. Laid_out bs (q + 3) k (entries_items known bs b.fields stride n (q + 3))) ends here.1) ih.1 in
-        (ih.0, (omega arith, own_bytes 3 q fits, subst (λ k. Laid_out bs k (groups_end bs q2 gs) (entries_items known bs b.fields stride n (q + 3) ++ groups_items known bs q2 gs)) behind items))
+        let items = laid_on (q + 3) q2 (groups_end bs q2 gs) (entries_items known bs b.fields stride n (q + 3)) (groups_items known bs q2 gs) (subst (λ k. LaidOut bs (q + 3) k (entries_items known bs b.fields stride n (q + 3))) ends here.1) ih.1 in
+        (ih.0, (omega arith, own_bytes 3 q fits, subst (λ k. LaidOut bs k (groups_end bs q2 gs) (entries_items known bs b.fields stride n (q + 3) ++ groups_items known bs q2 gs)) behind items))
 
     -- ---- a frame
 
     pub items_laid : (closed newer : Bool) (version : ℕ) (t : Template) → GoodTemplate known version t → 12 ≤ length bs →
-        contents_verdict closed newer (view_of known t) (stated_root bs) 12 (drop 12 bs) ≡ fine → Laid_out bs 12 (length bs) (items_by known bs t)
+        contents_verdict closed newer (view_of known t) (stated_root bs) 12 (drop 12 bs) ≡ fine → LaidOut bs 12 (length bs) (items_by known bs t)
     items_laid closed newer version t g twelve e =
         let given = stated_root bs in
         let v = view_of known t in

@@ -17,7 +17,7 @@ use Rattle.schema.specs.Laws.{Checked}
 use Rattle.message.specs.Messages.{Message, frame, verdict_when, frame_verdict, message_of, stated_template, stated_version, Stands, Closes}
 use Rattle.message.specs.Lookup.{Reading, means, holds, not_found, frame_reading, message_reading}
 use Rattle.message.specs.Fronts.{front_message}
-use Rattle.message.specs.Walks.{Item, frame_items, Laid_out, filled_out, told_by, told_message}
+use Rattle.message.specs.Walks.{Item, frame_items, LaidOut, filled_out, told_by, told_message}
 
 -- Bytes are accepted exactly if they are the frame of a message that closes (not closed: of one that a form may hold), and then they read as that message.
 pub record AcceptedExactlyAsAFrame (closed : Bool) (known : Known) (s bs : List ℕ) : Type 0 where
@@ -62,7 +62,7 @@ pub record TakenAsByAnother (closed : Bool) (known other : Known) (s bs : List �
 pub record WalkedThrough (known : Known) (s bs : List ℕ) : Type 0 where
   pub items : List Item
   pub walked : frame_items known s bs ≡ Ok items
-  pub laid_out : Laid_out bs 12 (length bs) items
+  pub laid_out : LaidOut bs 12 (length bs) items
   pub made_up : filled_out bs 0 items ≡ bs
   pub tells_all : map (told_by known) items ≡ told_message (dictionary_of s) (message_of known (dictionary_of s) bs)
 

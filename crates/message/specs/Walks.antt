@@ -74,9 +74,9 @@ frame_items known s bs = items_in known (version_of s) (stated_version bs) bs (s
 -- ---- what items and the bytes between them make up
 
 -- from p up to q the items follow one another, each where it says it is; what lies between them is padding, lengths and what is passed over
-abbrev pub Laid_out : List ℕ → ℕ → ℕ → List Item → Type 0
-Laid_out bs p q [] = p ≤ q
-Laid_out bs p q (i ∷ is) = (p ≤ place_of i) × (bytes_of i ≡ take (length (bytes_of i)) (drop (place_of i) bs)) × Laid_out bs (place_of i + length (bytes_of i)) q is
+abbrev pub LaidOut : List ℕ → ℕ → ℕ → List Item → Type 0
+LaidOut bs p q [] = p ≤ q
+LaidOut bs p q (i ∷ is) = (p ≤ place_of i) × (bytes_of i ≡ take (length (bytes_of i)) (drop (place_of i) bs)) × LaidOut bs (place_of i + length (bytes_of i)) q is
 
 -- the items' bytes, with the bytes of bs that lie between and behind them, from p on
 abbrev pub filled_out : List ℕ → ℕ → List Item → List ℕ
