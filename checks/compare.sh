@@ -1,8 +1,8 @@
 #!/usr/bin/env bash
 # Compares the implementation here with the second one in compare/, on inputs from a seed: through static libraries, and
 # by what the programs print. Takes the number of inputs for each call (a fiftieth of it for the programs) and the seed;
-# ends with a status other than 0 on any difference. It works on a copy of the committed repository, into which the crate
-# compare/compared is put. Needs cargo. Run from the repository's root.
+# ends with a status other than 0 on any difference. It works on a copy of the committed repository. Needs cargo. Run from
+# the repository's root.
 set -eu
 count=${1:-20000}
 seed=${2:-1}
