@@ -3,8 +3,9 @@
 
 Run once at the top of a repository that port.py has turned. In specs/ and proofs/ of every crate it collects the names that
 are declared there (definitions, constructors, fields and lemmas, not the answers of generated goals) and have a dash, or, of a
-fact that port.py took for a word, an underscore. A word goes to snake case (le-value: le_value), a type or a fact to camel case (Makes-up: MakesUp). Five facts would then
-have the name of a struct of src/; they get `Is` in front, as facts that are nouns have.
+fact that port.py took for a word, an underscore. A word goes to snake case (le-value: le_value), a type or a fact to camel
+case (Makes-up: MakesUp). Five facts would then have the name of a struct of src/; they get `Is` in front, as facts that are
+nouns have.
 
 It replaces whole names, in .antt files everywhere, in .rt files in `ghost` items and clauses, and in .edit files. Comments
 keep their English. Functions of src/, strings, inputs and outputs keep their names, since none has a dash.
