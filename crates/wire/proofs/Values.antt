@@ -1,8 +1,8 @@
 -- Numbers in bytes: reading and writing are each other's inverse, at any width.
-use Rattle.std.proofs.Common.{◌≡◌, ℕ, zero, suc, ◌+◌, ◌-◌, ◌*◌, ◌/◌, ◌%◌, ◌^◌, ◌<◌, ◌≤◌, List, [], ◌∷◌, ◌++◌, reverse, length, get_or, take, drop, set, sym, refl, ap, ◌∙◌, subst, append_assoc, lt_of_lt_of_le, arith, lit<, length-drop, length-take}
+use Rattle.std.proofs.Common.{Fits, w8, ◌≡◌, ℕ, zero, suc, ◌+◌, ◌-◌, ◌*◌, ◌/◌, ◌%◌, ◌^◌, ◌<◌, ◌≤◌, List, [], ◌∷◌, ◌++◌, reverse, length, get_or, take, set, sym, refl, ap, ◌∙◌, subst, append_assoc, lt_of_lt_of_le, arith, lit<, length-take}
 use native.Mathlib.Nat.{pow-succ', pow-le-pow_right}
-use Rattle.std.proofs.lemmas.List.{at_drop_more, take_more, take_more_set, length-set, append-nil, take_all, reverse-append, reverse-reverse, length-reverse}
-use Rattle.std.proofs.ByRecursion.{All-drop, All-take, All-append}
+use Rattle.std.proofs.lemmas.List.{take_more, take_more_set, length-set, append-nil, take_all, reverse-append, reverse-reverse, length-reverse}
+use Rattle.std.proofs.ByRecursion.{All-from_get_or, All-take, All-append}
 use Rattle.wire.specs.Bytes.{Bytes}
 use Rattle.wire.specs.Numbers.{le_value, le_bytes, be_value, be_bytes}
 
@@ -74,34 +74,37 @@ be_value_push s b =
     let e : le_value (reverse (s ++ (b ∷ []))) ≡ b + 256 * le_value (reverse s) = ap le_value (reverse-append s (b ∷ [])) in
     omega (arith, e)
 
+-- what the type of a slice of bytes says of its elements
+pub bytes_held : (s : List ℕ) → ((i : ℕ) → Fits w8 (get_or s i 0)) → Bytes s
+bytes_held s h = All-from_get_or (λ b. b < 256) s 0 (λ i _. (h i).fits)
+
 -- ---- the loops
 
 -- eight bytes are below 2 ^ 64
 pub below_64 : (n k : ℕ) → n < 256 ^ k → k ≤ 8 → n < 2 ^ 64
 below_64 n k h l = lt_of_lt_of_le h (pow-le-pow_right (lit< tt) l)
 
--- eight bytes from any place on
-pub le_fits : (s : List ℕ) (j : ℕ) → Bytes s → length s ≤ 8 → le_value (drop j s) < 2 ^ 64
-le_fits s j h l =
-    let short : length (drop j s) ≤ 8 = simp length-drop (omega arith) in
-    below_64 _ (length (drop j s)) (le_value_below (drop j s) (All-drop (λ b. b < 256) j s h)) short
-
-pub le_turn : (s : List ℕ) (i n : ℕ) → 0 < i → i ≤ length s → n ≡ le_value (drop i s) → n * 256 + get_or s (i - 1) 0 ≡ le_value (drop (i - 1) s)
-le_turn s i n p h e =
-    let back : i - 1 + 1 ≡ i = omega arith in
-    let step = at_drop_more le_value s (i - 1) 0 (omega arith) in
-    let same : le_value (drop (i - 1 + 1) s) ≡ n = ap (λ (k : ℕ). le_value (drop k s)) back ∙ sym e in
-    omega (arith, step, same)
-
-pub be_turn : (s : List ℕ) (i n : ℕ) → i < length s → n ≡ be_value (take i s) → n * 256 + get_or s i 0 ≡ be_value (take (i + 1) s)
-be_turn s i n h e =
-    let step = ap be_value (take_more s i 0 h) ∙ be_value_push (take i s) (get_or s i 0) in
+pub be_turn : (s : List ℕ) (i n d : ℕ) → i < length s → n ≡ be_value (take i s) → n * 256 + get_or s i d ≡ be_value (take (i + 1) s)
+be_turn s i n d h e =
+    let step = ap be_value (take_more s i d h) ∙ be_value_push (take i s) (get_or s i d) in
     omega (arith, step, e)
 
-pub be_fits : (s : List ℕ) (j : ℕ) → Bytes s → length s ≤ 8 → be_value (take j s) < 2 ^ 64
-be_fits s j h l =
-    let short : length (take j s) ≤ 8 = simp length-take (omega arith) in
-    below_64 _ (length (take j s)) (be_value_below (take j s) (All-take (λ b. b < 256) j s h)) short
+-- the number that a turn of the loop makes fits in eight bytes
+pub be_fits : (s : List ℕ) (i n d : ℕ) → Bytes s → length s ≤ 8 → i < length s → n ≡ be_value (take i s) → n * 256 + get_or s i d < 2 ^ 64
+be_fits s i n d h l below e =
+    let turn = be_turn s i n d below e in
+    let short : length (take (i + 1) s) ≤ 8 = simp length-take (omega arith) in
+    let fits = below_64 _ (length (take (i + 1) s)) (be_value_below (take (i + 1) s) (All-take (λ b. b < 256) (i + 1) s h)) short in
+    omega (arith, turn, fits)
+
+-- the same from the last byte to the first, b among the bytes in reverse
+pub le_turn : (s : List ℕ) (i n b : ℕ) → (i < length (reverse s)) × (b ≡ get_or (reverse s) i b) → n ≡ be_value (take i (reverse s)) → n * 256 + b ≡ be_value (take (i + 1) (reverse s))
+le_turn s i n b h e = ap (λ (x : ℕ). n * 256 + x) h.1 ∙ be_turn (reverse s) i n b h.0 e
+
+pub le_fits : (s : List ℕ) (i n b : ℕ) → Bytes s → length s ≤ 8 → (i < length (reverse s)) × (b ≡ get_or (reverse s) i b) → n ≡ be_value (take i (reverse s)) → n * 256 + b < 2 ^ 64
+le_fits s i n b known l h e =
+    let fits = be_fits (reverse s) i n b (bytes_reverse s known) (rw length-reverse l) h.0 e in
+    omega (arith, h.1, fits)
 
 pub put_step : (out : List ℕ) (i left n : ℕ) → i < length out → take i out ++ le_bytes (length out - i) left ≡ le_bytes (length out) n → take (i + 1) (set out i (left % 256)) ++ le_bytes (length (set out i (left % 256)) - (i + 1)) (left / 256) ≡ le_bytes (length (set out i (left % 256))) n
 put_step out i left n h inv =

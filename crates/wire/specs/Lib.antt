@@ -2,3 +2,4 @@ pub mod Bytes
 pub mod Numbers
 pub mod Refusals
 pub mod Streams
+pub mod Written

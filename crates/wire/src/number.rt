@@ -3,14 +3,11 @@ ghost use Rattle.std.specs.Prelude.{◌≡◌, ℕ, ◌+◌, ◌^◌, ◌<◌, �
 ghost use Rattle.wire.specs.Bytes.{Bytes};
 ghost use Rattle.wire.specs.Numbers.{le_value, le_bytes, be_value, be_bytes};
 
-// A call that a slice is passed to has the prover know that its elements are bytes.
-fn touch(_s: &[u8]) {}
-
 // Does nothing: its caller's proof learns that each element is below 256.
 pub fn seen(s: &[u8])
     ensures { Bytes s.now }
 {
-    touch(s)
+    let _ = s;
 }
 
 // w bytes of s from p on.
@@ -35,20 +32,14 @@ pub fn tail(s: &[u8], p: usize) -> &[u8]
 pub fn upto(s: &[u8], n: usize) -> &[u8]
     ensures { result.now ≡ take n s.now }
 {
-    if s.len() < n {
-        return s;
-    }
-    &s[0..n]
+    s.get(..n).unwrap_or(s)
 }
 
 // What lies behind the first n bytes: nothing where there are fewer.
 pub fn beyond(s: &[u8], n: usize) -> &[u8]
     ensures { result.now ≡ drop n s.now }
 {
-    if s.len() < n {
-        return tail(s, s.len());
-    }
-    tail(s, n)
+    &s[n.min(s.len())..]
 }
 
 // The number that up to eight bytes are, the little end first.
@@ -58,12 +49,9 @@ pub fn le_read(s: &[u8]) -> u64
     ensures bound { result < 256 ^ length s.now }
     ensures written { le_bytes (length s.now) result ≡ s.now }
 {
-    seen(s);
-    let mut i = s.len();
     let mut n: u64 = 0;
-    while i > 0 {
-        i -= 1;
-        n = n * 256 + s[i] as u64;
+    for b in s.iter().rev() {
+        n = n * 256 + *b as u64;
     }
     n
 }
@@ -74,22 +62,20 @@ pub fn le_put(out: &mut [u8], n: u64)
     ensures read { n < 256 ^ length out.old → le_value out.new ≡ n }
 {
     let mut left = n;
-    let mut i = 0;
-    while i < out.len() {
-        out[i] = (left % 256) as u8;
+    for b in out.iter_mut() {
+        *b = (left % 256) as u8;
         left /= 256;
-        i += 1;
     }
 }
 
 // The number that up to eight bytes are, the big end first.
+// One function over any iterator is no plainer: its contract would have to say in which order the bytes come.
 pub fn be_read(s: &[u8]) -> u64
     requires { length s.now ≤ 8 }
     ensures value { result ≡ be_value s.now }
     ensures bound { result < 256 ^ length s.now }
     ensures written { be_bytes (length s.now) result ≡ s.now }
 {
-    seen(s);
     let mut n: u64 = 0;
     for b in s {
         n = n * 256 + *b as u64;

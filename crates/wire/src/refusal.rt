@@ -1,6 +1,9 @@
 // A refusal has a reason, a place and a tag.
-ghost use Rattle.std.specs.Prelude.{◌≡◌};
-ghost use Rattle.wire.specs.Refusals.{number_of, plain, moved_up, located_as, Room};
+ghost use Rattle.std.specs.Prelude.{◌≡◌, Some};
+ghost use Rattle.wire.specs.Refusals.{number_of, refusal, plain, moved_up, located_as, Room};
+ghost use Rattle.wire.specs.Written.{written};
+
+use std::fmt;
 
 // Why something is refused. The discriminants are the numbers of the refusals.
 #[derive(Clone, Copy, PartialEq, Eq)]
@@ -39,15 +42,22 @@ impl Reason {
         self as u8
     }
 
+    // A refusal for this reason at the place, with the tag.
+    pub fn at(self, place: usize, tag: u32) -> Refusal
+        ensures { result ≡ refusal self place tag }
+    {
+        Refusal {
+            reason: self,
+            place,
+            tag,
+        }
+    }
+
     // A refusal for this reason that has no place yet.
     pub fn plain(self) -> Refusal
         ensures { result ≡ plain self }
     {
-        Refusal {
-            reason: self,
-            place: 0,
-            tag: 0,
-        }
+        self.at(0, 0)
     }
 }
 
@@ -58,17 +68,21 @@ pub struct Refusal {
     pub tag: u32,
 }
 
+impl fmt::Display for Refusal {
+    ghost output = { λ e. Some (written e) };
+
+    fn fmt<W: fmt::Write>(&self, f: &mut fmt::Formatter<W>) -> fmt::Result {
+        let number = self.reason.number();
+        let place = self.place;
+        let tag = self.tag;
+        write!(f, "{number} {place} {tag}")
+    }
+}
+
 // What rises from an object that begins at `place` and has the tag.
 pub fn located<T>(r: Result<T, Refusal>, place: usize, tag: u32) -> Result<T, Refusal>
     requires { Room r place }
     ensures { result ≡ located_as r place tag }
 {
-    match r {
-        Ok(x) => Ok(x),
-        Err(e) => Err(Refusal {
-            reason: e.reason,
-            place: e.place + place,
-            tag,
-        }),
-    }
+    r.map_err(|e| e.reason.at(e.place + place, tag))
 }

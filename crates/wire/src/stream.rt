@@ -2,10 +2,11 @@
 ghost use Rattle.std.specs.Prelude.{◌≡◌};
 ghost use Rattle.wire.specs.Streams.{told, shown, first, frame_length, front_of, FrontStandsAsTheStreamGrows, MakesUp};
 
-use crate::number::{le_read, part, tail};
+use crate::number::{le_read, part};
 use crate::refusal::{Reason, Refusal};
 
 // The front of a stream: how many bytes of its first frame are missing, or that frame and the rest.
+// It is no Result: bytes that are still to come are no refusal.
 #[derive(Clone, Copy)]
 pub enum Piece<'a> {
     Missing(usize),
@@ -24,19 +25,17 @@ const ENCODING: u64 = 0xEB50;
 pub fn is_frame_length(n: usize) -> bool
     ensures { result ≡ frame_length n }
 {
-    HEADER <= n && n <= LONGEST
+    (HEADER..=LONGEST).contains(&n)
 }
 
 // The first `length` bytes of the stream and the rest, or how many are missing.
 fn split<'a>(stream: &'a [u8], length: usize) -> Piece<'a>
     ensures { shown result ≡ first length stream.now }
 {
-    if stream.len() < length {
-        return Piece::Missing(length - stream.len());
+    match stream.split_at_checked(length) {
+        Some((frame, rest)) => Piece::Frame { frame, rest },
+        None => Piece::Missing(length - stream.len()),
     }
-    let frame = part(stream, 0, length);
-    let rest = tail(stream, length);
-    Piece::Frame { frame, rest }
 }
 
 // What the front of a stream is, by its first four bytes.
@@ -47,19 +46,11 @@ fn front(stream: &[u8]) -> Result<Piece<'_>, Refusal>
         return Ok(Piece::Missing(4 - stream.len()));
     }
     if le_read(part(stream, 2, 2)) != ENCODING {
-        return Err(Refusal {
-            reason: Reason::Encoding,
-            place: 2,
-            tag: 0,
-        });
+        return Err(Reason::Encoding.at(2, 0));
     }
     let length = le_read(part(stream, 0, 2)) as usize;
     if !is_frame_length(length) {
-        return Err(Refusal {
-            reason: Reason::FrameSize,
-            place: 0,
-            tag: 0,
-        });
+        return Err(Reason::FrameSize.at(0, 0));
     }
     Ok(split(stream, length))
 }

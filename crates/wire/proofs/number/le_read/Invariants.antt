@@ -1,10 +1,7 @@
-use Rattle.std.proofs.Common.{◌≡◌, ◌≤◌, length, drop}
-use Rattle.wire.specs.Numbers.{le_value}
+use Rattle.std.proofs.Common.{◌≡◌, length, reverse, take}
+use Rattle.wire.specs.Numbers.{be_value}
 use Rattle.wire.proofs.number.le_read.Given as goal
 
--- what is passed so far is the number of the bytes from i on
-abbrev pub invariant-loop-i : goal.invariant-loop-i
-invariant-loop-i l = (l.i ≤ length l.s) × (l.n ≡ le_value (drop l.i l.s))
-
-abbrev pub decreases-loop-i : goal.decreases-loop-i
-decreases-loop-i l = l.i
+-- what is passed so far, from the end, is the number of those bytes
+abbrev pub invariant-loop-b : goal.invariant-loop-b
+invariant-loop-b l = l.n ≡ be_value (take (length l.yielded) (reverse l.s))
