@@ -1,11 +1,10 @@
 // Bytes put and moved in a buffer.
+// Each function says the length again, as its own clause: a struct round the buffer is no plainer, callers lend a slice of theirs.
 #![tactic(auto)]
 
 ghost use Rattle.std.specs.Prelude.{◌≡◌, ◌+◌, ◌-◌, ◌<◌, ◌≤◌, [], ◌∷◌, length, replicate};
 ghost use Rattle.wire.specs.Numbers.{le_bytes};
 ghost use Rattle.moves.specs.Moves.{patched, shifted};
-
-use wire::le_put;
 
 // Puts the bytes x at p.
 pub fn put(buffer: &mut [u8], p: usize, x: &[u8])
@@ -31,7 +30,7 @@ pub fn put_number(buffer: &mut [u8], p: usize, n: u16)
     ensures value { buffer.new ≡ patched p (le_bytes 2 n) buffer.old }
     ensures len { length buffer.new ≡ length buffer.old }
 {
-    le_put(&mut buffer[p..p + 2], n as u64);
+    put(buffer, p, &n.to_le_bytes());
 }
 
 // Puts one byte at p.

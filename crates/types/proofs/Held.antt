@@ -1,5 +1,5 @@
 -- What a pattern holds of the bytes that it is made of.
-use Rattle.std.proofs.Common.{◌≡◌, ℕ, ◌-◌, min, List, ◌++◌, length, take, sym, ap, ◌∙◌, ⊎_elim, arith}
+use Rattle.std.proofs.Common.{◌≡◌, ℕ, min, List, ◌++◌, length, take, sym, ap, ◌∙◌, ⊎_elim, arith}
 use Rattle.std.proofs.lemmas.List.{take_all, take_at, length-take-le}
 use Rattle.std.proofs.lemmas.Bool.{cases_lt}
 
@@ -11,9 +11,7 @@ front_20 s w e =
     (cases_lt 20 (length s))
 
 -- the first bytes, copied to the front of something else
-pub copied : (s front behind : List ℕ) (w : ℕ) → w ≡ min (length s) 20 → front ≡ take (w - 0) s → take w (front ++ behind) ≡ take 20 s
+pub copied : (s front behind : List ℕ) (w : ℕ) → w ≡ min (length s) 20 → front ≡ take w s → take w (front ++ behind) ≡ take 20 s
 copied s front behind w e h =
-    let k : w - 0 ≡ w = omega arith in
-    let same : front ≡ take w s = h ∙ ap (λ (n : ℕ). take n s) k in
-    let long : length front ≡ w = ap length same ∙ length-take-le w s (omega arith) in
-    take_at front behind w long ∙ same ∙ front_20 s w e
+    let long : length front ≡ w = ap length h ∙ length-take-le w s (omega arith) in
+    take_at front behind w long ∙ h ∙ front_20 s w e

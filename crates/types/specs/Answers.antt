@@ -1,5 +1,5 @@
 -- What the four calls of a library answer, by the kind that it knows. Assumes nothing.
-use Rattle.std.specs.Prelude.{ℕ, List, Some, None, Ok, Err, Option, Result}
+use Rattle.std.specs.Prelude.{◌≡◌, ℕ, List, Some, None, Ok, Err, Option, Result}
 use Rattle.wire.specs.declared.refusal.Reason.{Reason}
 use Rattle.wire.specs.declared.refusal.Reason.TheVariants as reason
 use Rattle.wire.specs.declared.refusal.Refusal.{Refusal}
@@ -47,3 +47,8 @@ read_of (Some k) s = or_refused reason.NoPattern (k.means s)
 abbrev pub pattern_of : Option Kind → Meaning → Result (List ℕ) Refusal
 pattern_of None m = Err (plain reason.UnknownType)
 pattern_of (Some k) m = or_refused reason.NoSuchValue (k.pattern m)
+
+-- what is found by a number and an argument has the kind that is known of them, and what is refused is unknown
+abbrev pub Finds : {X : Type 0} → (X → Kind) → Option Kind → Result X Refusal → Type 0
+Finds kind known (Ok x) = known ≡ Some (kind x)
+Finds kind known (Err e) = (known ≡ None) × (e ≡ plain reason.UnknownType)

@@ -9,6 +9,7 @@ use crate::value::Value;
 use wire::Refusal;
 
 // Types by number and argument. Every refusal of a library has place 0 and tag 0: who asks adds its own.
+// A rule of the project: a library is asked by number and argument.
 pub trait TypeLibrary {
     // What the library knows.
     ghost known: { Self → Known };

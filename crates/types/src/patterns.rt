@@ -12,7 +12,7 @@ impl Pattern {
     {
         let width = bytes.len().min(20);
         let mut held = [0u8; 20];
-        held[0..width].copy_from_slice(&bytes[0..width]);
+        held[..width].copy_from_slice(&bytes[..width]);
         Pattern { bytes: held, width }
     }
 
@@ -20,6 +20,6 @@ impl Pattern {
         ensures value { result.now ≡ pattern_bytes self.now }
         ensures len { length result.now ≤ 20 }
     {
-        &self.bytes[0..self.width]
+        &self.bytes[..self.width]
     }
 }

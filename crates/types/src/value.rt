@@ -11,6 +11,7 @@ pub enum Value<'a> {
     Investor((u16, u32)),
 }
 
+// The functions name the kind of value; From is no plainer, the type of a literal would then choose the kind.
 impl<'a> Value<'a> {
     pub fn unsigned(n: u64) -> Value<'a>
         ensures { result ≡ Value.Unsigned n }
