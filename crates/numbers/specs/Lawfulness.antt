@@ -8,25 +8,24 @@ use Rattle.numbers.specs.declared.numeric.Width.{Width}
 use Rattle.numbers.specs.declared.numeric.Form.{Form}
 use Rattle.numbers.specs.declared.numeric.Absent.{Absent}
 use Rattle.numbers.specs.declared.numeric.Numeric.{Numeric}
-use Rattle.numbers.specs.declared.Found.{Found}
-use Rattle.numbers.specs.declared.Found.TheVariants as found
 use Rattle.numbers.specs.Numerics.{entry_of, rule_of, with_rule, with_form, numeric_of}
 use Rattle.numbers.specs.Codes.{code_list}
 use Rattle.numbers.specs.Kinds.{numeric_kind, codes_kind}
-use Rattle.numbers.specs.Types.{found_number, found_of, kind_of, number_kinds}
+use Rattle.numbers.specs.Types.{Named, found_number, found_of, kind_of, number_kinds}
+use Rattle.numbers.specs.Types as named
 use Rattle.numbers.specs.Stands.{FewDecimals}
 use Rattle.numbers.specs.NumericLaws.{numeric_lawful}
 use Rattle.numbers.specs.CodeLaws.{codes_lawful}
 
-no_codes : (t : Option Numeric) → found_number t ≢ Some found.Codes
+no_codes : (t : Option Numeric) → found_number t ≢ Some named.codes
 no_codes None e = grind arith
 no_codes (Some t) e = grind arith
 
-codes_found : (number : ℕ) (argument : List ℕ) → found_of number argument ≡ Some found.Codes → code_list argument ≡ true
+codes_found : (number : ℕ) (argument : List ℕ) → found_of number argument ≡ Some named.codes → code_list argument ≡ true
 codes_found number argument e =
     ⊎_elim
     (λ a.
-    let inner : cond (code_list argument) (Some found.Codes) None ≡ Some found.Codes = rw a.0 at e in
+    let inner : cond (code_list argument) (Some named.codes) None ≡ Some named.codes = rw a.0 at e in
     ⊎_elim (λ t. t) (λ f. absurd (grind (arith, rw f at inner))) (cases_Bool (code_list argument)))
     (λ a. absurd (no_codes (numeric_of number argument) (rw a.0 at e)))
     (eqb_tells number 7)
@@ -81,27 +80,27 @@ few_numeric number (byte ∷ (decimals ∷ [])) =
     (λ e. few_with_form (entry_of number decimals) byte (few_entry number decimals (leb-true decimals 9 (and_parts (number == 8) (nat_le decimals 9) e).1)))
 few_numeric number (byte ∷ (decimals ∷ (more ∷ rest))) = tt
 
-number_found : (t : Option Numeric) (x : Numeric) → found_number t ≡ Some (found.Number x) → t ≡ Some x
+number_found : (t : Option Numeric) (x : Numeric) → found_number t ≡ Some (named.number x) → t ≡ Some x
 number_found None x e = absurd (grind arith)
 number_found (Some t) x e = cc
 
-few_found : (number : ℕ) (argument : List ℕ) (t : Numeric) → found_of number argument ≡ Some (found.Number t) → FewDecimals t.form
+few_found : (number : ℕ) (argument : List ℕ) (t : Numeric) → found_of number argument ≡ Some (named.number t) → FewDecimals t.form
 few_found number argument t e =
     ⊎_elim
     (λ a.
-    let inner : cond (code_list argument) (Some found.Codes) None ≡ Some (found.Number t) = rw a.0 at e in
+    let inner : cond (code_list argument) (Some named.codes) None ≡ Some (named.number t) = rw a.0 at e in
     ⊎_elim (λ y. absurd (grind (arith, rw y at inner))) (λ n. absurd (grind (arith, rw n at inner))) (cases_Bool (code_list argument)))
     (λ a. subst FewNumeric (number_found (numeric_of number argument) t (rw a.0 at e)) (few_numeric number argument))
     (eqb_tells number 7)
 
 -- ---- the laws
 
-found_lawful : (number : ℕ) (argument : List ℕ) (f : Option Found) → found_of number argument ≡ f → (k : Kind) → kind_of argument f ≡ Some k → Lawful k
+found_lawful : (number : ℕ) (argument : List ℕ) (f : Option Named) → found_of number argument ≡ f → (k : Kind) → kind_of argument f ≡ Some k → Lawful k
 found_lawful number argument None h k e = absurd (grind arith)
-found_lawful number argument (Some found.Codes) h k e =
+found_lawful number argument (Some named.codes) h k e =
     let is : codes_kind argument ≡ k = cc in
     subst Lawful is (codes_lawful argument (codes_found number argument h))
-found_lawful number argument (Some (found.Number t)) h k e =
+found_lawful number argument (Some (named.number t)) h k e =
     let is : numeric_kind t ≡ k = cc in
     subst Lawful is (numeric_lawful t (few_found number argument t h))
 

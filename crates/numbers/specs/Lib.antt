@@ -7,3 +7,4 @@ pub mod Lawfulness
 pub mod Stands
 pub mod NumericLaws
 pub mod CodeLaws
+pub mod Finding

@@ -1,8 +1,13 @@
 // The library of the number types: unsigned, signed, decimal, and one out of a list of codes.
 #![tactic(auto)]
 
-ghost use Rattle.std.specs.Prelude.{◌≡◌};
-ghost use Rattle.numbers.specs.Types.{found_of, number_kinds, is_number_type};
+ghost use Rattle.std.specs.Prelude.{◌≡◌, Some};
+ghost use Rattle.std.specs.Option.{option_map};
+ghost use Rattle.types.specs.Meanings.{meaning};
+ghost use Rattle.types.specs.Patterns.{pattern_bytes};
+ghost use Rattle.types.specs.Answers.{meant, patterned, read_of, pattern_of, Finds};
+ghost use Rattle.numbers.specs.Types.{number_kinds, is_number_type};
+ghost use Rattle.numbers.specs.Finding.{kind_found};
 ghost use Rattle.numbers.specs.Lawfulness.{numbers_lawful};
 
 mod bits;
@@ -10,34 +15,78 @@ mod codes;
 mod numeric;
 mod storage;
 
-use codes::{blank_code, is_code_list, read_code, write_code};
+use codes::Codes;
 use numeric::{Numeric, numeric_of};
-use storage::{blank_number, read_number, write_number};
 use types::{Pattern, TypeLibrary, Value};
 use wire::{Reason, Refusal};
 
-// What a number and an argument name: a code of the argument's list, or a type of numbers.
+// The number of the types that are one out of a list of codes.
+const CODES: u8 = 7;
+
+// What a number and an argument name: one out of a list of codes, or a type of numbers.
 #[derive(Clone, Copy)]
-enum Found {
-    Codes,
+enum Found<'a> {
+    Codes(Codes<'a>),
     Number(Numeric),
 }
 
+impl<'a> Found<'a> {
+    // The width of the patterns.
+    fn width(self) -> usize
+        ensures { result ≡ (kind_found self.entry).width }
+    {
+        match self {
+            Found::Codes(_) => 1,
+            Found::Number(t) => t.width.bytes(),
+        }
+    }
+
+    // The pattern that a cleared field holds.
+    fn blank(self) -> Pattern
+        ensures { pattern_bytes result ≡ (kind_found self.entry).blank }
+    {
+        match self {
+            Found::Codes(codes) => codes.blank(),
+            Found::Number(t) => t.blank(),
+        }
+    }
+
+    // What the bytes mean.
+    fn read<'b>(self, bytes: &[u8]) -> Result<Option<Value<'b>>, Refusal>
+        ensures { meant result ≡ read_of (Some (kind_found self.entry)) bytes.now }
+    {
+        match self {
+            Found::Codes(codes) => codes.read(bytes),
+            Found::Number(t) => t.read(bytes),
+        }
+    }
+
+    // The pattern of a value.
+    fn write(self, value: Value<'_>) -> Result<Pattern, Refusal>
+        ensures { patterned result ≡ pattern_of (Some (kind_found self.entry)) (meaning value.entry) }
+    {
+        match self {
+            Found::Codes(codes) => codes.write(value),
+            Found::Number(t) => t.write(value),
+        }
+    }
+}
+
 // What the number and the argument name, where they name a type.
-fn find(number: u8, argument: &[u8]) -> Option<Found>
-    ensures { result ≡ found_of number argument.now }
+fn named(number: u8, argument: &[u8]) -> Option<Found<'_>>
+    ensures { option_map kind_found result ≡ number_kinds number argument.now }
 {
-    if number == 7 {
-        return if is_code_list(argument) {
-            Some(Found::Codes)
-        } else {
-            None
-        };
+    if number == CODES {
+        return Some(Found::Codes(Codes::of(argument)?));
     }
-    match numeric_of(number, argument) {
-        Some(t) => Some(Found::Number(t)),
-        None => None,
-    }
+    Some(Found::Number(numeric_of(number, argument)?))
+}
+
+// The same, refused where they name no type.
+fn find(number: u8, argument: &[u8]) -> Result<Found<'_>, Refusal>
+    ensures { Finds kind_found (number_kinds number argument.now) result }
+{
+    named(number, argument).ok_or(Reason::UnknownType.plain())
 }
 
 // The library of the number types.
@@ -50,19 +99,11 @@ impl TypeLibrary for Numbers {
     ghost lawful = { λ l. numbers_lawful };
 
     fn width(&self, number: u8, argument: &[u8]) -> Result<usize, Refusal> {
-        match find(number, argument) {
-            Some(Found::Codes) => Ok(1),
-            Some(Found::Number(t)) => Ok(t.width.bytes()),
-            None => Err(Reason::UnknownType.plain()),
-        }
+        Ok(find(number, argument)?.width())
     }
 
     fn blank(&self, number: u8, argument: &[u8]) -> Result<Pattern, Refusal> {
-        match find(number, argument) {
-            Some(Found::Codes) => Ok(blank_code(argument)),
-            Some(Found::Number(t)) => Ok(blank_number(t)),
-            None => Err(Reason::UnknownType.plain()),
-        }
+        Ok(find(number, argument)?.blank())
     }
 
     fn read<'a>(
@@ -71,24 +112,17 @@ impl TypeLibrary for Numbers {
         argument: &[u8],
         bytes: &'a [u8],
     ) -> Result<Option<Value<'a>>, Refusal> {
-        match find(number, argument) {
-            Some(Found::Codes) => read_code(argument, bytes),
-            Some(Found::Number(t)) => read_number(t, bytes),
-            None => Err(Reason::UnknownType.plain()),
-        }
+        find(number, argument)?.read(bytes)
     }
 
     fn write(&self, number: u8, argument: &[u8], value: Value<'_>) -> Result<Pattern, Refusal> {
-        match find(number, argument) {
-            Some(Found::Codes) => write_code(argument, value),
-            Some(Found::Number(t)) => write_number(t, value),
-            None => Err(Reason::UnknownType.plain()),
-        }
+        find(number, argument)?.write(value)
     }
 }
 
 impl Numbers {
     // Whether the number and the argument name a type.
+    // It says by its own words which types: one method of the interface would say only that something is known.
     pub fn knows(&self, number: u8, argument: &[u8]) -> bool
         ensures { result ≡ is_number_type number argument.now }
     {

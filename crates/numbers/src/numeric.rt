@@ -1,14 +1,14 @@
 // The number types: their widths, forms and absent rules, by number and argument.
 ghost use Rattle.std.specs.Prelude.{◌≡◌, ◌≤◌};
-ghost use Rattle.numbers.specs.Numerics.{bytes_in, entry_of, rule_of, numeric_of};
+ghost use Rattle.numbers.specs.Numerics.{bytes_in, entry_of, rule_of, with_form, numeric_of};
 
 // How many bytes a number has.
 #[derive(Clone, Copy)]
 pub(crate) enum Width {
-    One,
-    Two,
-    Four,
-    Eight,
+    One = 1,
+    Two = 2,
+    Four = 4,
+    Eight = 8,
 }
 
 // What bits stand for: a number from zero up, one in two's complement, or a mantissa in two's complement with so many decimals.
@@ -45,12 +45,7 @@ impl Width {
         ensures value { result ≡ bytes_in self }
         ensures bound { result ≤ 8 }
     {
-        match self {
-            Width::One => 1,
-            Width::Two => 2,
-            Width::Four => 4,
-            Width::Eight => 8,
-        }
+        self as usize
     }
 }
 
@@ -74,32 +69,36 @@ fn entry(number: u8, decimals: u8) -> Option<(Width, Form)>
 fn rule(form: Form, byte: u8) -> Option<Absent>
     ensures { result ≡ rule_of form byte }
 {
-    match byte {
-        0 => Some(Absent::Never),
-        1 => Some(Absent::Zero),
-        2 => Some(Absent::Ones),
-        3 => match form {
-            Form::Unsigned => None,
-            _ => Some(Absent::Top),
-        },
+    match (byte, form) {
+        (0, _) => Some(Absent::Never),
+        (1, _) => Some(Absent::Zero),
+        (2, _) => Some(Absent::Ones),
+        (3, Form::Signed | Form::Decimal(_)) => Some(Absent::Top),
         _ => None,
     }
+}
+
+// The type of a number with its decimals and the byte of its absent rule.
+fn ruled(number: u8, decimals: u8, byte: u8) -> Option<Numeric>
+    ensures { result ≡ with_form (entry_of number decimals) byte }
+{
+    let (width, form) = entry(number, decimals)?;
+    let absent = rule(form, byte)?;
+    Some(Numeric {
+        width,
+        form,
+        absent,
+    })
 }
 
 // The type of numbers that a number and an argument name.
 pub(crate) fn numeric_of(number: u8, argument: &[u8]) -> Option<Numeric>
     ensures { result ≡ numeric_of number argument.now }
 {
-    let decimals = if argument.len() == 2 { argument[1] } else { 0 };
-    let wanted = if number == 8 { 2 } else { 1 };
-    if argument.len() != wanted || decimals > MOST_DECIMALS {
-        return None;
+    match (number, argument) {
+        (8, [byte, decimals @ 0..=MOST_DECIMALS]) => ruled(8, *decimals, *byte),
+        (8, _) => None,
+        (_, [byte]) => ruled(number, 0, *byte),
+        _ => None,
     }
-    let (width, form) = entry(number, decimals)?;
-    let absent = rule(form, argument[0])?;
-    Some(Numeric {
-        width,
-        form,
-        absent,
-    })
 }

@@ -6,7 +6,7 @@ use Rattle.types.specs.Kinds.{Kind, Lawful, AllLawful}
 use Rattle.text.specs.Texts.{text_kind}
 use Rattle.text.specs.Investors.{investor_kind}
 use Rattle.text.specs.Known.{is_text, is_an_investor, text_kinds}
-use Rattle.text.specs.Options.{same_some, given}
+use Rattle.std.proofs.lemmas.Option.{same_Some, cond_some}
 use Rattle.text.specs.TextLaws.{text_lawful}
 use Rattle.text.specs.InvestorLaws.{investor_lawful}
 
@@ -16,7 +16,7 @@ stated number count w e = (grind (arith, nat_tests), grind (arith, nat_tests))
 
 -- one of two that tests choose
 one_of : (b : Bool) (j : Kind) (rest : Option Kind) (k : Kind) → cond b (Some j) rest ≡ Some k → (b ≡ true → Lawful j) → (rest ≡ Some k → Lawful k) → Lawful k
-one_of true j rest k e p q = subst Lawful (same_some j k e) (p refl)
+one_of true j rest k e p q = subst Lawful (same_Some j k e) (p refl)
 one_of false j rest k e p q = q e
 
 pub all_lawful : AllLawful text_kinds
@@ -24,4 +24,4 @@ all_lawful number argument k e =
     let w = slice_index_or argument 0 0 in
     one_of (is_text number argument) (text_kind w) _ k e
     (λ t. let b = stated number (length argument) w t in text_lawful w b.0 b.1)
-    (λ r. subst Lawful (given (is_an_investor number argument) investor_kind k r).1 investor_lawful)
+    (λ r. subst Lawful (cond_some (is_an_investor number argument) investor_kind k r).1 investor_lawful)

@@ -12,7 +12,7 @@ use Rattle.types.specs.Meanings.{Meaning, absent, unsigned, signed, decimal, tex
 use Rattle.types.specs.Kinds.{Lawful}
 use Rattle.text.specs.Texts.{only_zeros, zeros}
 use Rattle.text.specs.Investors.{nobody, investor_of, investor_means, is_investor, investor_pattern, investor_kind}
-use Rattle.text.specs.Options.{same_some, none_is_not, given}
+use Rattle.std.proofs.lemmas.Option.{same_Some, none-some, cond_some}
 
 -- the bytes of a prefix and a document
 abbrev laid : ℕ → ℕ → List ℕ
@@ -70,29 +70,29 @@ part_below s i k h l =
 -- ---- the laws
 
 long : (m : Meaning) (s : List ℕ) → investor_pattern m ≡ Some s → length s ≡ 8
-long absent s e = ap length (sym (same_some (zeros 8) s e))
-long (unsigned n) s e = absurd (none_is_not s e)
-long (signed z) s e = absurd (none_is_not s e)
-long (decimal z n) s e = absurd (none_is_not s e)
-long (text t) s e = absurd (none_is_not s e)
-long (investor p d) s e = ap length (sym (given (is_investor p d) (laid p d) s e).1)
+long absent s e = ap length (sym (same_Some (zeros 8) s e))
+long (unsigned n) s e = absurd (none-some s e)
+long (signed z) s e = absurd (none-some s e)
+long (decimal z n) s e = absurd (none-some s e)
+long (text t) s e = absurd (none-some s e)
+long (investor p d) s e = ap length (sym (cond_some (is_investor p d) (laid p d) s e).1)
 
 bytes : (m : Meaning) (s : List ℕ) → investor_pattern m ≡ Some s → Bytes s
-bytes absent s e = subst Bytes (same_some (zeros 8) s e) (laid_bytes 0 0)
-bytes (unsigned n) s e = absurd (none_is_not s e)
-bytes (signed z) s e = absurd (none_is_not s e)
-bytes (decimal z n) s e = absurd (none_is_not s e)
-bytes (text t) s e = absurd (none_is_not s e)
-bytes (investor p d) s e = subst Bytes (given (is_investor p d) (laid p d) s e).1 (laid_bytes p d)
+bytes absent s e = subst Bytes (same_Some (zeros 8) s e) (laid_bytes 0 0)
+bytes (unsigned n) s e = absurd (none-some s e)
+bytes (signed z) s e = absurd (none-some s e)
+bytes (decimal z n) s e = absurd (none-some s e)
+bytes (text t) s e = absurd (none-some s e)
+bytes (investor p d) s e = subst Bytes (cond_some (is_investor p d) (laid p d) s e).1 (laid_bytes p d)
 
 read_back : (m : Meaning) (s : List ℕ) → investor_pattern m ≡ Some s → investor_means s ≡ Some m
-read_back absent s e = ap investor_means (sym (same_some (zeros 8) s e))
-read_back (unsigned n) s e = absurd (none_is_not s e)
-read_back (signed z) s e = absurd (none_is_not s e)
-read_back (decimal z n) s e = absurd (none_is_not s e)
-read_back (text t) s e = absurd (none_is_not s e)
+read_back absent s e = ap investor_means (sym (same_Some (zeros 8) s e))
+read_back (unsigned n) s e = absurd (none-some s e)
+read_back (signed z) s e = absurd (none-some s e)
+read_back (decimal z n) s e = absurd (none-some s e)
+read_back (text t) s e = absurd (none-some s e)
 read_back (investor p d) s e =
-    let g = given (is_investor p d) (laid p d) s e in
+    let g = cond_some (is_investor p d) (laid p d) s e in
     subst (λ x. investor_means x ≡ Some (investor p d)) g.1 (laid_means p d g.0)
 
 -- the pattern of what a prefix and a document are
@@ -109,7 +109,7 @@ written_back : (s : List ℕ) (m : Meaning) → Bytes s → investor_means s ≡
 written_back s m h e =
     let p = le_value (take 2 s) in
     let d = le_value (take 4 (drop 4 s)) in
-    let g = given (length s == 8 && only_zeros (take 2 (drop 2 s))) (investor_of p d) m e in
+    let g = cond_some (length s == 8 && only_zeros (take 2 (drop 2 s))) (investor_of p d) m e in
     let q = and_parts (length s == 8) (only_zeros (take 2 (drop 2 s))) g.0 in
     let l : length s ≡ 8 = eqb-true (length s) 8 q.0 in
     subst (λ x. investor_pattern x ≡ Some s) g.1
@@ -118,12 +118,12 @@ written_back s m h e =
 -- the prefix and the document fit
 sayable : (m : Meaning) (s : List ℕ) → investor_pattern m ≡ Some s → Sayable m
 sayable absent s e = tt
-sayable (unsigned n) s e = absurd (none_is_not s e)
-sayable (signed z) s e = absurd (none_is_not s e)
-sayable (decimal z n) s e = absurd (none_is_not s e)
-sayable (text t) s e = absurd (none_is_not s e)
+sayable (unsigned n) s e = absurd (none-some s e)
+sayable (signed z) s e = absurd (none-some s e)
+sayable (decimal z n) s e = absurd (none-some s e)
+sayable (text t) s e = absurd (none-some s e)
 sayable (investor p d) s e =
-    let h = somebody p d (given (is_investor p d) (laid p d) s e).0 in
+    let h = somebody p d (cond_some (is_investor p d) (laid p d) s e).0 in
     (h.1, h.2)
 
 pub investor_lawful : Lawful investor_kind
@@ -136,6 +136,6 @@ investor_lawful =
       read_back = read_back;
       written_back = written_back;
       blank_is = refl;
-      absent_is = λ s e. sym (same_some (zeros 8) s e);
+      absent_is = λ s e. sym (same_Some (zeros 8) s e);
       sayable = sayable;
     }

@@ -1,8 +1,8 @@
 -- The types of this library. Assumes nothing.
-use Rattle.std.specs.Prelude.{ℕ, Bool, cond, ◌&&◌, ◌||◌, List, length, Some, None, Option, ◌==◌, nat_le, slice_index}
+use Rattle.std.specs.Prelude.{ℕ, Bool, cond, ◌&&◌, ◌||◌, List, length, Some, None, ◌==◌, nat_le, slice_index}
 use Rattle.types.specs.Kinds.{Kind, Known}
-use Rattle.text.specs.declared.Shape.{Shape}
-use Rattle.text.specs.declared.Shape.TheVariants as shape
+use Rattle.text.specs.declared.shape.Shape.{Shape}
+use Rattle.text.specs.declared.shape.Shape.TheVariants as shape
 use Rattle.text.specs.Texts.{text_kind}
 use Rattle.text.specs.Investors.{investor_kind}
 
@@ -26,10 +26,5 @@ knows_of number argument = is_text number argument || is_an_investor number argu
 
 -- the kind that a shape of the code stands for
 abbrev pub kind_of : Shape → Kind
-kind_of (shape.Text width) = text_kind width
+kind_of (shape.Text t) = text_kind t.width
 kind_of shape.Investor = investor_kind
-
--- the same where there may be none
-abbrev pub kinds_of : Option Shape → Option Kind
-kinds_of None = None
-kinds_of (Some s) = Some (kind_of s)

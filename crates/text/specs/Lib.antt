@@ -2,6 +2,5 @@ pub mod Texts
 pub mod Investors
 pub mod Known
 pub mod AllLaws
-pub mod Options
 pub mod TextLaws
 pub mod InvestorLaws

@@ -11,7 +11,7 @@ use Rattle.wire.specs.Bytes.{Bytes}
 use Rattle.types.specs.Meanings.{Meaning, absent, unsigned, signed, decimal, text, investor, Sayable}
 use Rattle.types.specs.Kinds.{Lawful}
 use Rattle.text.specs.Texts.{character, only_zeros, zeros, text_of, counted_text, text_means, holds, text_pattern, text_kind}
-use Rattle.text.specs.Options.{same_some, none_is_not, given}
+use Rattle.std.proofs.lemmas.Option.{same_Some, none-some, cond_some}
 
 -- ---- zeros
 
@@ -87,26 +87,26 @@ means_absent n w s a b e = rw (e, eq-eqb (length s) w a, b)
 -- ---- the laws
 
 long : (w : ℕ) (m : Meaning) (s : List ℕ) → text_pattern w m ≡ Some s → length s ≡ w
-long w absent s e = ap length (sym (same_some (zeros w) s e)) ∙ length-replicate w 0
-long w (unsigned n) s e = absurd (none_is_not s e)
-long w (signed z) s e = absurd (none_is_not s e)
-long w (decimal z n) s e = absurd (none_is_not s e)
+long w absent s e = ap length (sym (same_Some (zeros w) s e)) ∙ length-replicate w 0
+long w (unsigned n) s e = absurd (none-some s e)
+long w (signed z) s e = absurd (none-some s e)
+long w (decimal z n) s e = absurd (none-some s e)
 long w (text t) s e =
-    let p = given (holds w t) (t ++ zeros (w - length t)) s e in
+    let p = cond_some (holds w t) (t ++ zeros (w - length t)) s e in
     let h = held (prefix_len character t) (length t) w p.0 in
     ap length (sym p.1) ∙ length_padded t w h.1
-long w (investor p d) s e = absurd (none_is_not s e)
+long w (investor p d) s e = absurd (none-some s e)
 
 bytes : (w : ℕ) (m : Meaning) (s : List ℕ) → text_pattern w m ≡ Some s → Bytes s
-bytes w absent s e = subst Bytes (same_some (zeros w) s e) (zeros_are_bytes w)
-bytes w (unsigned n) s e = absurd (none_is_not s e)
-bytes w (signed z) s e = absurd (none_is_not s e)
-bytes w (decimal z n) s e = absurd (none_is_not s e)
+bytes w absent s e = subst Bytes (same_Some (zeros w) s e) (zeros_are_bytes w)
+bytes w (unsigned n) s e = absurd (none-some s e)
+bytes w (signed z) s e = absurd (none-some s e)
+bytes w (decimal z n) s e = absurd (none-some s e)
 bytes w (text t) s e =
-    let p = given (holds w t) (t ++ zeros (w - length t)) s e in
+    let p = cond_some (holds w t) (t ++ zeros (w - length t)) s e in
     let h = held (prefix_len character t) (length t) w p.0 in
     subst Bytes p.1 (All-append (λ b. b < 256) t (zeros (w - length t)) (characters_are_bytes t h.2) (zeros_are_bytes (w - length t)))
-bytes w (investor p d) s e = absurd (none_is_not s e)
+bytes w (investor p d) s e = absurd (none-some s e)
 
 padded_means : (w : ℕ) (t : List ℕ) → holds w t ≡ true → text_means w (t ++ zeros (w - length t)) ≡ Some (text t)
 padded_means w t e =
@@ -120,15 +120,15 @@ padded_means w t e =
 
 read_back : (w : ℕ) (m : Meaning) (s : List ℕ) → text_pattern w m ≡ Some s → text_means w s ≡ Some m
 read_back w absent s e =
-    subst (λ t. text_means w t ≡ Some absent) (same_some (zeros w) s e)
+    subst (λ t. text_means w t ≡ Some absent) (same_Some (zeros w) s e)
     (means_absent (prefix_len character (zeros w)) w (zeros w) (length-replicate w 0) (zeros_are_zeros w) (leading_padded [] w refl))
-read_back w (unsigned n) s e = absurd (none_is_not s e)
-read_back w (signed z) s e = absurd (none_is_not s e)
-read_back w (decimal z n) s e = absurd (none_is_not s e)
+read_back w (unsigned n) s e = absurd (none-some s e)
+read_back w (signed z) s e = absurd (none-some s e)
+read_back w (decimal z n) s e = absurd (none-some s e)
 read_back w (text t) s e =
-    let p = given (holds w t) (t ++ zeros (w - length t)) s e in
+    let p = cond_some (holds w t) (t ++ zeros (w - length t)) s e in
     subst (λ x. text_means w x ≡ Some (text t)) p.1 (padded_means w t p.0)
-read_back w (investor p d) s e = absurd (none_is_not s e)
+read_back w (investor p d) s e = absurd (none-some s e)
 
 -- ---- bytes whose first n are the characters and the rest zeros are the pattern of what they mean
 
@@ -157,21 +157,21 @@ pattern_back n w s c l z =
 written_back : (w : ℕ) (s : List ℕ) (m : Meaning) → Bytes s → text_means w s ≡ Some m → text_pattern w m ≡ Some s
 written_back w s m b e =
     let n = prefix_len character s in
-    let p = given (length s == w && only_zeros (drop n s)) (text_of n s) m e in
+    let p = cond_some (length s == w && only_zeros (drop n s)) (text_of n s) m e in
     let q = and_parts (length s == w) (only_zeros (drop n s)) p.0 in
     subst (λ x. text_pattern w x ≡ Some s) p.1 (pattern_back n w s refl (eqb-true (length s) w q.0) q.1)
 
 -- characters are bytes
 sayable : (w : ℕ) (m : Meaning) (s : List ℕ) → text_pattern w m ≡ Some s → Sayable m
 sayable w absent s e = tt
-sayable w (unsigned n) s e = absurd (none_is_not s e)
-sayable w (signed z) s e = absurd (none_is_not s e)
-sayable w (decimal z n) s e = absurd (none_is_not s e)
+sayable w (unsigned n) s e = absurd (none-some s e)
+sayable w (signed z) s e = absurd (none-some s e)
+sayable w (decimal z n) s e = absurd (none-some s e)
 sayable w (text t) s e =
-    let p = given (holds w t) (t ++ zeros (w - length t)) s e in
+    let p = cond_some (holds w t) (t ++ zeros (w - length t)) s e in
     let h = held (prefix_len character t) (length t) w p.0 in
     characters_are_bytes t h.2
-sayable w (investor p d) s e = absurd (none_is_not s e)
+sayable w (investor p d) s e = absurd (none-some s e)
 
 pub text_lawful : (w : ℕ) → 1 ≤ w → w ≤ 20 → Lawful (text_kind w)
 text_lawful w low high =
@@ -183,6 +183,6 @@ text_lawful w low high =
       read_back = read_back w;
       written_back = written_back w;
       blank_is = refl;
-      absent_is = λ s e. sym (same_some (zeros w) s e);
+      absent_is = λ s e. sym (same_Some (zeros w) s e);
       sayable = sayable w;
     }

@@ -1,20 +1,11 @@
-use Rattle.std.proofs.Common.{arith}
-use Rattle.std.proofs.lemmas.List.{at_drop_more, at_drop_all}
-use Rattle.std.proofs.lemmas.Bool.Decides.{nat_tests}
-use Rattle.numbers.specs.Codes.{rising_from}
+use Rattle.std.proofs.Common.{ltb, rules}
+use Rattle.std.proofs.lemmas.Fn.{always_returns_same}
+use borrow.Author.Tests.{tests}
+use Rattle.wire.proofs.Values.{bytes_held}
+use Rattle.numbers.proofs.Listing.{rising_answer}
 use Rattle.numbers.proofs.codes.is_rising.Goals as goal
-
-pub returns-then-b-low : goal.returns-then-b-low
-returns-then-b-low c =
-    let step = at_drop_more (rising_from c.loop-b.low) c.args.s.now c.loop-b.b-index 0 (omega arith) in
-    grind (arith, nat_tests)
-
-pub loop-b-preserved : goal.loop-b-preserved
-loop-b-preserved c =
-    let step = at_drop_more (rising_from c.loop-b.low) c.args.s.now c.loop-b.b-index 0 (omega arith) in
-    grind (arith, nat_tests)
 
 pub returns : goal.returns
 returns c =
-    let end = at_drop_all (rising_from c.loop-b.low) c.args.s.now c.loop-b.b-index (omega arith) in
-    grind (arith, nat_tests)
+    let s = c.args.s.now in
+    rising_answer s _ (bytes_held s c.type_inv.s) (c.is_sorted_by.ensures.cases (λ x y. ltb x y) (always_returns_same _ _ _ (λ a r q k. (search (rules, tests), search rules))))

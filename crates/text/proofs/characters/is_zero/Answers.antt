@@ -1,0 +1,10 @@
+use Rattle.std.proofs.Common.{eqb, sym, ◌∙◌, rules}
+use Rattle.std.proofs.lemmas.Iterator.{YieldsList-from_slice}
+use Rattle.std.proofs.lemmas.Iterator.Search.{all_from_yields_List}
+use Rattle.text.proofs.Runs.{zeros_all}
+use Rattle.text.proofs.characters.is_zero.Goals as goal
+
+pub returns : goal.returns
+returns c =
+    all_from_yields_List (λ b. eqb b 0) _ _ _ c.all.ensures.ran (YieldsList-from_slice c.args.s.now cc) (λ x b q k. search rules)
+    ∙ sym (zeros_all c.args.s.now)
