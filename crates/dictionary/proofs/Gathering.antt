@@ -1,15 +1,15 @@
 -- What is gathered of a tag is what stands above.
-use Rattle.std.proofs.Common.{◌≡◌, ℕ, ◌+◌, ◌-◌, ◌<◌, ◌≤◌, Bool, true, false, cond, ◌||◌, eqb, List, [], ◌∷◌, ◌++◌, length, take, drop, Some, None, Ok, Err, Option, Result, sym, refl, ap, ◌∙◌, subst, ap₂, add-one, arith, length-drop}
+use Rattle.std.proofs.Common.{◌≡◌, ℕ, ◌+◌, ◌-◌, ◌<◌, ◌≤◌, Bool, true, false, cond, ◌||◌, eqb, List, [], ◌∷◌, ◌++◌, length, take, drop, Some, None, Ok, Err, Result, sym, refl, ap, ◌∙◌, subst, ap₂, add-one, arith, length-drop}
 use Rattle.std.proofs.lemmas.List.{drop-drop, take_all}
-use Rattle.schema.specs.Lines.{Line, field, group, end, part, line_size, first_line, lines, onward, there}
+use Rattle.schema.specs.Lines.{Line, field, group, end, part, line_size, first_line, lines, there}
 use Rattle.schema.specs.Shape.{Above, Stage, root, inside, behind, closing, nothing_above, past, member, in_order, well_named, ended, lines_shape}
 use Rattle.schema.specs.Verdicts.{Verdict, fine, rule, ◌then◌}
 use Rattle.wire.specs.Refusals.{bind, refusal}
 use Rattle.wire.specs.declared.refusal.Refusal.{Refusal}
 use Rattle.wire.specs.declared.refusal.Reason.TheVariants as reason
-use Rattle.schema.proofs.Pieces.{AllThere, there_push, all_there_push, up_to_piece, behind_piece}
-use Rattle.schema.proofs.LinePieces.{line_pieces, lines_none, lines_step}
-use Rattle.dictionary.proofs.Walking.{no_line_left}
+use Rattle.schema.proofs.Pieces.{AllThere, there_push, all_there_push, up_to_piece}
+use Rattle.schema.proofs.LinePieces.{line_pieces, lines_none}
+use Rattle.dictionary.proofs.Cutting.{line_cut, broken_line, none_left}
 use Rattle.dictionary.specs.declared.shape.Survey.{Survey}
 use Rattle.dictionary.specs.declared.shape.Stage.TheVariants as code
 use Rattle.dictionary.specs.Shown.{tag_of}
@@ -70,32 +70,37 @@ above_push a p (k ∷ ls) l =
     above_push (past a p k) (p + line_size k) ls l
     ∙ ap (λ q. past (above_from (past a p k) (p + line_size k) ls) q l) (omega arith)
 
-pub judged : (before : List ℕ) (place q tag : ℕ) (l : Line) (s : Survey) (r : Result ℕ Refusal) (f : Option Line) → s ≡ gathered_from tag nothing_gathered place (there (lines before)) → tag ≡ tag_of l → r ≡ line_weighed s q l → Some l ≡ f → r ≡ line_judged (above_from nothing_above place (there (lines before))) q f
-judged before place q tag l s r f gather brings weigh here =
+pub judged : (before : List ℕ) (place q tag : ℕ) (l : Line) (s : Survey) (r : Result ℕ Refusal) → s ≡ gathered_from tag nothing_gathered place (there (lines before)) → tag ≡ tag_of l → r ≡ line_weighed s q l → r ≡ line_judged (above_from nothing_above place (there (lines before))) q (Some l)
+judged before place q tag l s r gather brings weigh =
     let a = above_from nothing_above place (there (lines before)) in
     weigh
     ∙ ap (λ x. line_weighed x q l) (gather ∙ all_gathered tag nothing_above place (there (lines before)))
     ∙ ap (λ t. line_weighed (gathered t a) q l) brings
     ∙ weighed_judged a q l
-    ∙ ap (line_judged a q) here
+
+-- the line at a place, judged by the bytes above it
+pub judged_at : (body before : List ℕ) (place at : ℕ) (l : Line) (r : Result ℕ Refusal) → before ≡ take at body → length before ≡ at → r ≡ line_judged (above_from nothing_above place (there (lines before))) (place + length before) (Some l) → line_judged (above_from nothing_above place (there (lines (take at body)))) (place + at) (Some l) ≡ r
+judged_at body before place at l r is long e =
+    sym (e ∙ ap₂ (λ b n. line_judged (above_from nothing_above place (there (lines b))) (place + n) (Some l)) is long)
 
 -- ---- the loop over a template's lines
 
 -- the lines up to a place are all there, and have so many bytes; what is left to judge gives what the whole gives
-pub record Reached (body : List ℕ) (place at : ℕ) : Type 0 where
+pub record Reached (body : List ℕ) (place at : ℕ) (rest : List ℕ) : Type 0 where
   pub within : at ≤ length body
+  pub left : rest ≡ drop at body
   pub whole : AllThere (lines (take at body))
   pub sized : total (there (lines (take at body))) ≡ at
-  pub same : lines_shape (above_from nothing_above place (there (lines (take at body)))) (place + at) (lines (drop at body)) ≡ lines_shape nothing_above place (lines body)
+  pub same : lines_shape (above_from nothing_above place (there (lines (take at body)))) (place + at) (lines rest) ≡ lines_shape nothing_above place (lines body)
 
-pub reached_none : (body : List ℕ) (place : ℕ) → Reached body place 0
-reached_none body place =
-    let e = lines_none in
+pub reached_none : (body rest : List ℕ) (place : ℕ) → rest ≡ body → Reached body place 0 rest
+reached_none body rest place is =
     record {
       within = omega arith;
+      left = is;
       whole = rw lines_none refl;
       sized = rw lines_none refl;
-      same = rw lines_none (ap (λ p. lines_shape nothing_above p (lines body)) (omega arith));
+      same = rw lines_none (ap₂ (λ p s. lines_shape nothing_above p (lines s)) (omega arith) is);
     }
 
 total_push : (ls : List Line) (l : Line) → total (ls ++ (l ∷ [])) ≡ total ls + line_size l
@@ -114,76 +119,60 @@ step_refuses true true e f g m k h = let z : ◌≡◌ {A = ℕ} 0 1 = cc in abs
 step_refuses true false e f g m k h = cc
 step_refuses false y e f g m k h = cc
 
-pub record Passed (a : Above) (p n : ℕ) (o : Option Line) (below : Line → List (Option Line)) : Type 0 where
-  pub line : Line
-  pub is : o ≡ Some line
-  pub size : n ≡ line_size line
-  pub goes_on : lines_shape a p (onward o below) ≡ lines_shape (past a p line) (p + n) (below line)
-
-passed : (a : Above) (p n : ℕ) (o : Option Line) (below : Line → List (Option Line)) → line_judged a p o ≡ Ok n → Passed a p n o below
-passed a p n None below e = let z : ◌≡◌ {A = ℕ} 0 1 = cc in absurd (omega arith)
-passed a p n (Some l) below e =
-    let s = step_passes (in_order a.stage l) (well_named a l) (refusal reason.LineShape p 0) (refusal reason.LineName p 0) (line_size l) n (lines_shape (past a p l) (p + line_size l) (below l)) e in
-    record { line = l; is = refl; size = s.0; goes_on = s.1 ∙ ap (λ m. lines_shape (past a p l) (p + m) (below l)) (sym s.0) }
-
-pub refused : (a : Above) (p : ℕ) (o : Option Line) (below : Line → List (Option Line)) (g : Refusal) → line_judged a p o ≡ Err g → lines_shape a p (onward o below) ≡ Err g
-refused a p None below g e = let same : refusal reason.LineShape p 0 ≡ g = cc in ap (λ x. Err x) same
-refused a p (Some l) below g e = step_refuses (in_order a.stage l) (well_named a l) (refusal reason.LineShape p 0) (refusal reason.LineName p 0) g (line_size l) (lines_shape (past a p l) (p + line_size l) (below l)) e
-
-here : (body : List ℕ) (at : ℕ) → at < length body → lines (drop at body) ≡ onward (first_line (drop at body)) (λ l. lines (drop (line_size l) (drop at body)))
-here body at h =
-    let long : length (drop at body) ≡ length body - at = length-drop at body in
-    lines_step (drop at body) (omega arith)
-
-pub reached_more : (body : List ℕ) (place at n : ℕ) → Reached body place at → at < length body → line_judged (above_from nothing_above place (there (lines (take at body)))) (place + at) (first_line (drop at body)) ≡ Ok n → Reached body place (at + n) × (at < at + n)
-reached_more body place at n r h e =
+pub reached_more : (body rest rest' : List ℕ) (place at n : ℕ) (l : Line) → Reached body place at rest → first_line rest ≡ Some l → rest' ≡ drop (line_size l) rest → line_judged (above_from nothing_above place (there (lines (take at body)))) (place + at) (Some l) ≡ Ok n → Reached body place (at + n) rest' × (length rest' < length rest)
+reached_more body rest rest' place at n l r f cut e =
     let ls = there (lines (take at body)) in
     let a = above_from nothing_above place ls in
-    let go = passed a (place + at) n (first_line (drop at body)) (λ l. lines (drop (line_size l) (drop at body))) e in
-    let l = go.line in
-    let size = go.size in
-    let more : lines (take (at + n) body) ≡ lines (take at body) ++ (Some l ∷ []) =
-    ap (λ m. lines (take (at + m) body)) size ∙ up_to_piece first_line line_size lines line_pieces body at l h go.is r.whole in
-    let there_more : there (lines (take (at + n) body)) ≡ ls ++ (l ∷ []) = ap there more ∙ there_push (lines (take at body)) l r.whole in
-    let fits = behind_piece first_line line_size lines line_pieces body at l h go.is in
-    let low = fits.0 in
-    let high = fits.1 in
+    let p = place + at in
+    let go = step_passes (in_order a.stage l) (well_named a l) (refusal reason.LineShape p 0) (refusal reason.LineName p 0) (line_size l) n (lines_shape (past a p l) (p + line_size l) (lines rest')) e in
+    let size = go.0 in
+    let c = line_cut rest rest' l f cut in
+    let some = c.some in
+    let less = c.long in
     let was = r.sized in
     let pushed = total_push ls l in
-    let above_more : above_from nothing_above place (there (lines (take (at + n) body))) ≡ past a (place + at) l =
+    let long : length rest ≡ length body - at = ap length r.left ∙ length-drop at body in
+    let more : lines (take (at + n) body) ≡ lines (take at body) ++ (Some l ∷ []) =
+    ap (λ m. lines (take (at + m) body)) size ∙ up_to_piece first_line line_size lines line_pieces body at l (omega arith) (ap first_line (sym r.left) ∙ f) r.whole in
+    let there_more : there (lines (take (at + n) body)) ≡ ls ++ (l ∷ []) = ap there more ∙ there_push (lines (take at body)) l r.whole in
+    let above_more : above_from nothing_above place (there (lines (take (at + n) body))) ≡ past a p l =
     ap (above_from nothing_above place) there_more ∙ above_push nothing_above place ls l ∙ ap (λ t. past a (place + t) l) r.sized in
-    let rest : lines (drop (line_size l) (drop at body)) ≡ lines (drop (at + n) body) =
-    ap lines (drop-drop (line_size l) at body) ∙ ap (λ m. lines (drop (at + m) body)) (sym size) in
-    let q : place + (at + n) ≡ place + at + n = omega arith in (
+    let q : place + (at + n) ≡ p + line_size l = omega arith in (
       record {
         within = omega arith;
+        left = cut ∙ ap (drop (line_size l)) r.left ∙ drop-drop (line_size l) at body ∙ ap (λ m. drop (at + m) body) (sym size);
         whole = subst AllThere (sym more) (all_there_push (lines (take at body)) l r.whole);
         sized = ap total there_more ∙ omega arith;
         same =
-            ap (λ x. lines_shape x (place + (at + n)) (lines (drop (at + n) body))) above_more
-            ∙ ap (λ p. lines_shape (past a (place + at) l) p (lines (drop (at + n) body))) q
-            ∙ ap (lines_shape (past a (place + at) l) (place + at + n)) (sym rest)
-            ∙ sym go.goes_on
-            ∙ ap (lines_shape a (place + at)) (sym (here body at h))
+            ap₂ (λ x k. lines_shape x k (lines rest')) above_more q
+            ∙ sym go.1
+            ∙ ap (lines_shape a p) (sym c.all)
             ∙ r.same;
       },
       omega arith,
     )
 
-pub reached_refused : (body : List ℕ) (place at : ℕ) (g : Refusal) → Reached body place at → at < length body → line_judged (above_from nothing_above place (there (lines (take at body)))) (place + at) (first_line (drop at body)) ≡ Err g → lines_shape nothing_above place (lines body) ≡ Err g
-reached_refused body place at g r h e =
+pub reached_refused : (body rest rest' : List ℕ) (place at : ℕ) (l : Line) (g : Refusal) → Reached body place at rest → first_line rest ≡ Some l → rest' ≡ drop (line_size l) rest → line_judged (above_from nothing_above place (there (lines (take at body)))) (place + at) (Some l) ≡ Err g → Err g ≡ lines_shape nothing_above place (lines body)
+reached_refused body rest rest' place at l g r f cut e =
     let a = above_from nothing_above place (there (lines (take at body))) in
-    sym r.same
-    ∙ ap (lines_shape a (place + at)) (here body at h)
-    ∙ refused a (place + at) (first_line (drop at body)) (λ l. lines (drop (line_size l) (drop at body))) g e
+    let p = place + at in
+    sym (step_refuses (in_order a.stage l) (well_named a l) (refusal reason.LineShape p 0) (refusal reason.LineName p 0) g (line_size l) (lines_shape (past a p l) (p + line_size l) (lines rest')) e)
+    ∙ ap (lines_shape a p) (sym (line_cut rest rest' l f cut).all)
+    ∙ r.same
+
+-- what is left is no line
+pub reached_broken : (body rest : List ℕ) (place at : ℕ) → Reached body place at rest → first_line rest ≡ None → 0 < length rest → Err (refusal reason.LineShape (place + at) 0) ≡ lines_shape nothing_above place (lines body)
+reached_broken body rest place at r f h =
+    ap (lines_shape (above_from nothing_above place (there (lines (take at body)))) (place + at)) (sym (broken_line rest f h)) ∙ r.same
 
 -- at the end what is left is whether a group stands open
-pub reached_end : (body : List ℕ) (place at : ℕ) (s : Survey) (v : Verdict) → Reached body place at → length body ≤ at → s ≡ gathered_from 0 nothing_gathered place (there (lines body)) → v ≡ ended (staged s.stage) → v ≡ lines_shape nothing_above place (lines body)
-reached_end body place at s v r h gather e =
+pub reached_end : (body rest : List ℕ) (place at : ℕ) (s : Survey) (v : Verdict) → Reached body place at rest → length rest ≤ 0 → s ≡ gathered_from 0 nothing_gathered place (there (lines body)) → v ≡ ended (staged s.stage) → v ≡ lines_shape nothing_above place (lines body)
+reached_end body rest place at s v r h gather e =
     let a = above_from nothing_above place (there (lines body)) in
+    let long : length rest ≡ length body - at = ap length r.left ∙ length-drop at body in
     e
     ∙ ap (λ x. ended (staged x.stage)) (gather ∙ all_gathered 0 nothing_above place (there (lines body)))
     ∙ ap ended (staged_coded a.stage)
-    ∙ ap (λ t. ended (above_from nothing_above place (there (lines t))).stage) (sym (take_all at body h))
-    ∙ ap (lines_shape (above_from nothing_above place (there (lines (take at body)))) (place + at)) (sym (no_line_left body at h))
+    ∙ ap (λ t. ended (above_from nothing_above place (there (lines t))).stage) (sym (take_all at body (omega arith)))
+    ∙ ap (lines_shape (above_from nothing_above place (there (lines (take at body)))) (place + at)) (sym (none_left first_line line_size lines line_pieces rest h))
     ∙ r.same

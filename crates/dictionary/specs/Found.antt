@@ -1,7 +1,7 @@
 -- What a template found by the code is. Assumes nothing.
 use Rattle.std.specs.Prelude.{ℕ, ◌+◌, ◌≤◌, length, Some, None, Option}
 use Rattle.std.specs.Option.{option_map}
-use Rattle.dictionary.specs.declared.finding.Found.{Found}
+use Rattle.dictionary.specs.declared.found.Found.{Found}
 use Rattle.schema.specs.Finding.{PlacedSection}
 use Rattle.dictionary.specs.Shown.{shown_section}
 

@@ -3,3 +3,5 @@ pub mod Surveys
 pub mod Steps
 pub mod Found
 pub mod Seen
+pub mod Walks
+pub mod Placed

@@ -4,8 +4,8 @@ ghost use Rattle.schema.specs.Reading.{verdict, dictionary_length};
 ghost use Rattle.dictionary.specs.Steps.{rounds};
 ghost use Rattle.schema.specs.Laws.{PassesExactlyAsWrittenOut};
 
-use crate::geometry::check_sections_geometry;
-use crate::line::u16_at;
+use crate::geometry::Geometry;
+use crate::line::number_at;
 use crate::section::check_sections;
 use types::TypeLibrary;
 use wire::{Reason, Refusal, seen, tail};
@@ -29,7 +29,8 @@ fn check_rounds<L: TypeLibrary>(dictionary: &[u8], library: &L) -> Result<(), Re
 {
     let templates = tail(dictionary, 7);
     check_sections(templates)?;
-    check_sections_geometry(library, u16_at(dictionary, 5), templates)
+    let version = number_at::<2>(dictionary, 5) as u16;
+    Geometry { library, version }.check_sections(templates)
 }
 
 // The first broken rule of a dictionary, or that there is none.
@@ -37,20 +38,12 @@ fn judge<L: TypeLibrary>(dictionary: &[u8], library: &L) -> Result<(), Refusal>
     ensures { result ≡ verdict (L.known library.now) dictionary.now }
 {
     if !is_dictionary_length(dictionary.len())
-        || u16_at(dictionary, 1) as usize != dictionary.len()
+        || number_at::<2>(dictionary, 1) as usize != dictionary.len()
     {
-        return Err(Refusal {
-            reason: Reason::DictionarySize,
-            place: 0,
-            tag: 0,
-        });
+        return Err(Reason::DictionarySize.at(0, 0));
     }
     if dictionary[0] != 1 {
-        return Err(Refusal {
-            reason: Reason::Layout,
-            place: 0,
-            tag: 0,
-        });
+        return Err(Reason::Layout.at(0, 0));
     }
     check_rounds(dictionary, library)
 }

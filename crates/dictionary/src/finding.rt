@@ -5,15 +5,10 @@ ghost use Rattle.schema.specs.Finding.{section_at, seen_of};
 ghost use Rattle.schema.specs.Seen.{template_at};
 ghost use Rattle.dictionary.specs.Found.{shown_found, FoundWithin};
 
-use crate::section::{Section, first_section};
-use wire::tail;
-
-// A template and the place in the dictionary where it begins.
-#[derive(Clone, Copy)]
-pub struct Found<'a> {
-    pub place: usize,
-    pub section: Section<'a>,
-}
+use crate::found::Found;
+use crate::placed::PlacedSections;
+use crate::section::Section;
+use wire::beyond;
 
 // Whether a template has the number and is there at the version.
 fn is_wanted(section: Section<'_>, number: u16, version: u16) -> bool
@@ -28,15 +23,5 @@ pub fn find(dictionary: &[u8], number: u16, version: u16) -> Option<Found<'_>>
     ensures template { seen_of version (shown_found result) ≡ template_at (dictionary_of dictionary.now) number version }
     ensures within { FoundWithin result (length dictionary.now) }
 {
-    let mut place = 7;
-    while place < dictionary.len() {
-        let Some(section) = first_section(tail(dictionary, place)) else {
-            return None;
-        };
-        if is_wanted(section, number, version) {
-            return Some(Found { place, section });
-        }
-        place += section.bytes();
-    }
-    None
+    PlacedSections::of(7, beyond(dictionary, 7)).find(|f| is_wanted(f.section, number, version))
 }

@@ -8,10 +8,12 @@ ghost use Rattle.schema.specs.Lines.{lines, there};
 ghost use Rattle.dictionary.specs.Shown.{shown_line, shown_field, shown_section};
 ghost use Rattle.dictionary.specs.Steps.{line_ground, data_ground, shown_ground, grounded, longest_within, placed};
 
-use crate::line::{FieldLine, Line, first_line};
-use crate::section::{Section, first_section};
+use crate::line::{FieldLine, Line};
+use crate::lines::Lines;
+use crate::placed::PlacedSections;
+use crate::section::Section;
 use types::TypeLibrary;
-use wire::{Reason, Refusal, located, tail};
+use wire::{Reason, Refusal, located};
 
 // The longest block, and the longest that a data may be.
 const LONGEST_BLOCK: u16 = 16372;
@@ -63,43 +65,9 @@ impl Ground {
     fn holds(self, version: u16, offset: u16, end: usize, since: u16) -> bool
         ensures { result ≡ placed version (grounded self) offset end since }
     {
-        self.taken <= offset as usize
-            && end <= self.size as usize
+        self.taken <= usize::from(offset)
+            && end <= usize::from(self.size)
             && is_since(version, self.since, since)
-    }
-
-    // A field at a place: its type is known, and it has its place in the block.
-    fn past_field<L: TypeLibrary>(
-        self,
-        library: &L,
-        version: u16,
-        place: usize,
-        f: FieldLine<'_>,
-    ) -> Result<Ground, Refusal>
-        ensures { shown_ground result ≡ line_ground (L.known library.now) version (grounded self) place (field (shown_field f.entry)) }
-    {
-        let width = located(library.width(f.number, f.argument), place, f.tag)?;
-        if f.presence > 1 {
-            return Err(Refusal {
-                reason: Reason::UnknownType,
-                place,
-                tag: f.tag,
-            });
-        }
-        let end = f.offset as usize + width;
-        if !self.holds(version, f.offset, end, f.since) {
-            return Err(Refusal {
-                reason: Reason::LineGeometry,
-                place,
-                tag: f.tag,
-            });
-        }
-        Ok(Ground {
-            size: self.size,
-            taken: end,
-            since: f.since,
-            part_since: self.part_since,
-        })
     }
 
     // A data at a place: its longest is one, and its since fits.
@@ -114,80 +82,99 @@ impl Ground {
         ensures { shown_ground result ≡ data_ground version (grounded self) place tag since longest }
     {
         if !is_longest(longest) {
-            return Err(Refusal {
-                reason: Reason::UnknownType,
-                place,
-                tag,
-            });
+            return Err(Reason::UnknownType.at(place, tag));
         }
         if !is_since(version, self.part_since, since) {
-            return Err(Refusal {
-                reason: Reason::LineGeometry,
-                place,
-                tag,
-            });
+            return Err(Reason::LineGeometry.at(place, tag));
         }
         Ok(Ground {
-            size: self.size,
-            taken: self.taken,
-            since: self.since,
             part_since: since,
+            ..self
+        })
+    }
+}
+
+// What types and geometry are checked by: the types that are known, and the dictionary's version.
+#[derive_where(Clone, Copy)]
+pub struct Geometry<'a, L> {
+    pub library: &'a L,
+    pub version: u16,
+}
+
+impl<'a, L: TypeLibrary> Geometry<'a, L> {
+    // The ground behind a field at a place: its type is known, and it has its place in the block.
+    fn past_field(&self, above: Ground, place: usize, f: FieldLine<'_>) -> Result<Ground, Refusal>
+        ensures { shown_ground result ≡ line_ground (L.known self.now.library.now) self.now.version (grounded above) place (field (shown_field f.entry)) }
+    {
+        let width = located(self.library.width(f.number, f.argument), place, f.tag)?;
+        if f.presence > 1 {
+            return Err(Reason::UnknownType.at(place, f.tag));
+        }
+        let end = usize::from(f.offset) + width;
+        if !above.holds(self.version, f.offset, end, f.since) {
+            return Err(Reason::LineGeometry.at(place, f.tag));
+        }
+        Ok(Ground {
+            taken: end,
+            since: f.since,
+            ..above
         })
     }
 
-    // A line at a place, and the ground behind it.
-    fn past<L: TypeLibrary>(
-        self,
-        library: &L,
-        version: u16,
-        place: usize,
-        line: Line<'_>,
-    ) -> Result<Ground, Refusal>
-        ensures { shown_ground result ≡ line_ground (L.known library.now) version (grounded self) place (shown_line line.entry) }
+    // The ground behind a line at a place.
+    fn past(&self, above: Ground, place: usize, line: Line<'_>) -> Result<Ground, Refusal>
+        ensures { shown_ground result ≡ line_ground (L.known self.now.library.now) self.now.version (grounded above) place (shown_line line.entry) }
     {
         match line {
-            Line::Field(f) => self.past_field(library, version, place, f),
-            Line::Group { tag, size } => {
-                if !is_block_length(size) {
-                    return Err(Refusal {
-                        reason: Reason::LineGeometry,
-                        place,
-                        tag,
-                    });
-                }
-                Ok(Ground::block(size, self.part_since))
+            Line::Field(f) => self.past_field(above, place, f),
+            Line::Group { size, .. } if is_block_length(size) => {
+                Ok(Ground::block(size, above.part_since))
             }
-            Line::End => Ok(self),
+            Line::Group { tag, .. } => Err(Reason::LineGeometry.at(place, tag)),
+            Line::End => Ok(above),
             Line::Data {
                 tag,
                 since,
                 longest,
-            } => self.past_data(version, place, tag, since, longest),
+            } => above.past_data(self.version, place, tag, since, longest),
         }
     }
-}
 
-// The lines of a template, from a place on: each type known, each field in its place.
-fn check_lines_geometry<L: TypeLibrary>(
-    library: &L,
-    version: u16,
-    ground: Ground,
-    body: &[u8],
-    place: usize,
-) -> Result<(), Refusal>
-    requires { place + length body.now < 2 ^ 63 }
-    ensures { result ≡ lines_geometry (L.known library.now) version (grounded ground) place (there (lines body.now)) }
-{
-    let mut above = ground;
-    let mut at = 0;
-    while at < body.len() {
-        let Some(line) = first_line(tail(body, at)) else {
-            return Ok(());
-        };
-        above = above.past(library, version, place + at, line)?;
-        at += line.size();
+    // The lines of a template, from a place on: each type known, each field in its place.
+    fn check_lines(&self, ground: Ground, body: &[u8], place: usize) -> Result<(), Refusal>
+        requires { place + length body.now < 2 ^ 63 }
+        ensures { result ≡ lines_geometry (L.known self.now.library.now) self.now.version (grounded ground) place (there (lines body.now)) }
+    {
+        let mut above = ground;
+        let mut at = place;
+        for line in Lines::of(body) {
+            above = self.past(above, at, line)?;
+            at += line.size();
+        }
+        Ok(())
     }
-    Ok(())
+
+    // A template at a place of its dictionary: its head, then its lines.
+    fn check_section(&self, section: Section<'_>, place: usize) -> Result<(), Refusal>
+        requires { place + 8 + length section.body.now < 2 ^ 63 }
+        ensures { result ≡ section_geometry (L.known self.now.library.now) self.now.version place (shown_section section.entry) }
+    {
+        if section.since > self.version || !is_block_length(section.size) {
+            return Err(Reason::LineGeometry.at(place, 0));
+        }
+        self.check_lines(Ground::block(section.size, 0), section.body, place + 8)
+    }
+
+    // All templates; they begin at place 7.
+    pub fn check_sections(&self, templates: &[u8]) -> Result<(), Refusal>
+        requires { length templates.now < 2 ^ 62 }
+        ensures { result ≡ sections_geometry (L.known self.now.library.now) self.now.version 7 (there (sections templates.now)) }
+    {
+        for found in PlacedSections::of(7, templates) {
+            self.check_section(found.section, found.place)?;
+        }
+        Ok(())
+    }
 }
 
 impl<'a> Section<'a> {
@@ -201,39 +188,6 @@ impl<'a> Section<'a> {
         requires { place + 8 + length self.body.now < 2 ^ 63 }
         ensures { result ≡ section_geometry (L.known library.now) version place (shown_section self.entry) }
     {
-        if self.since > version || !is_block_length(self.size) {
-            return Err(Refusal {
-                reason: Reason::LineGeometry,
-                place,
-                tag: 0,
-            });
-        }
-        check_lines_geometry(
-            library,
-            version,
-            Ground::block(self.size, 0),
-            self.body,
-            place + 8,
-        )
+        Geometry { library, version }.check_section(self, place)
     }
-}
-
-// Types and geometry of all templates; they begin at place 7.
-pub fn check_sections_geometry<L: TypeLibrary>(
-    library: &L,
-    version: u16,
-    templates: &[u8],
-) -> Result<(), Refusal>
-    requires { length templates.now < 2 ^ 62 }
-    ensures { result ≡ sections_geometry (L.known library.now) version 7 (there (sections templates.now)) }
-{
-    let mut at = 0;
-    while at < templates.len() {
-        let Some(section) = first_section(tail(templates, at)) else {
-            return Ok(());
-        };
-        section.check_geometry(library, version, 7 + at)?;
-        at += section.bytes();
-    }
-    Ok(())
 }

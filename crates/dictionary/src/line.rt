@@ -1,12 +1,13 @@
 // The lines of a template.
-ghost use Rattle.std.specs.Prelude.{◌≡◌, ◌+◌, ◌≤◌, length};
-ghost use Rattle.schema.specs.Lines.{number_2, number_4, first_line, line_size, line_of};
+ghost use Rattle.std.specs.Prelude.{◌≡◌, ◌+◌, ◌^◌, ◌<◌, ◌≤◌, length, take, drop};
+ghost use Rattle.wire.specs.Numbers.{be_value};
+ghost use Rattle.schema.specs.Lines.{first_line, line_size, line_of};
 ghost use Rattle.dictionary.specs.Shown.{shown_first, shown_line, tag_of};
 
 use wire::{be_read, part, tail};
 
-// A field: where it stands in its block, since which version, its type by number and argument.
-#[derive(Clone, Copy)]
+// A field: where it stands in its block, since which version, its type by number and argument. Its presence is the byte that the line holds: the check says later whether it is one, and editions compare the byte, whatever it is.
+#[derive(Clone, Copy, PartialEq, Eq)]
 pub struct FieldLine<'a> {
     pub tag: u32,
     pub offset: u16,
@@ -16,7 +17,7 @@ pub struct FieldLine<'a> {
     pub argument: &'a [u8],
 }
 
-#[derive(Clone, Copy)]
+#[derive(Clone, Copy, PartialEq, Eq)]
 pub enum Line<'a> {
     Field(FieldLine<'a>),
     Group { tag: u32, size: u16 },
@@ -24,66 +25,39 @@ pub enum Line<'a> {
     Data { tag: u32, since: u16, longest: u8 },
 }
 
-// The big-endian number of two bytes at p.
-pub fn u16_at(s: &[u8], p: usize) -> u16
-    requires { p + 2 ≤ length s.now }
-    ensures { result ≡ number_2 s.now p }
+// The big-endian number of W bytes at p.
+pub fn number_at<const W: usize>(s: &[u8], p: usize) -> u64
+    requires width { W ≤ 8 }
+    requires within { p + W ≤ length s.now }
+    ensures value { result ≡ be_value (take W (drop p s.now)) }
+    ensures bound { result < 256 ^ W }
 {
-    be_read(part(s, p, 2)) as u16
+    be_read(part(s, p, W))
 }
 
-// The big-endian number of four bytes at p.
-pub fn u32_at(s: &[u8], p: usize) -> u32
-    requires { p + 4 ≤ length s.now }
-    ensures { result ≡ number_4 s.now p }
-{
-    be_read(part(s, p, 4)) as u32
-}
-
-// The line that bytes of one sort are, where that sort can have so many.
+// The line that bytes of one sort are, where that sort can have so many: the sort is a byte of the format, and what it says is the line's variant.
 fn line_of(sort: u8, bytes: &[u8]) -> Option<Line<'_>>
     ensures { shown_first result ≡ line_of (length bytes.now) sort bytes.now }
 {
-    let n = bytes.len();
-    match sort {
-        1 => {
-            if n < 12 {
-                return None;
-            }
-            Some(Line::Field(FieldLine {
-                tag: u32_at(bytes, 2),
-                offset: u16_at(bytes, 6),
-                since: u16_at(bytes, 8),
-                number: bytes[10],
-                presence: bytes[11],
-                argument: tail(bytes, 12),
-            }))
-        }
-        2 => {
-            if n != 8 {
-                return None;
-            }
-            Some(Line::Group {
-                tag: u32_at(bytes, 2),
-                size: u16_at(bytes, 6),
-            })
-        }
-        3 => {
-            if n != 2 {
-                return None;
-            }
-            Some(Line::End)
-        }
-        4 => {
-            if n != 9 {
-                return None;
-            }
-            Some(Line::Data {
-                tag: u32_at(bytes, 2),
-                since: u16_at(bytes, 6),
-                longest: bytes[8],
-            })
-        }
+    match (sort, bytes.len()) {
+        (1, 12..) => Some(Line::Field(FieldLine {
+            tag: number_at::<4>(bytes, 2) as u32,
+            offset: number_at::<2>(bytes, 6) as u16,
+            since: number_at::<2>(bytes, 8) as u16,
+            number: bytes[10],
+            presence: bytes[11],
+            argument: tail(bytes, 12),
+        })),
+        (2, 8) => Some(Line::Group {
+            tag: number_at::<4>(bytes, 2) as u32,
+            size: number_at::<2>(bytes, 6) as u16,
+        }),
+        (3, 2) => Some(Line::End),
+        (4, 9) => Some(Line::Data {
+            tag: number_at::<4>(bytes, 2) as u32,
+            since: number_at::<2>(bytes, 6) as u16,
+            longest: bytes[8],
+        }),
         _ => None,
     }
 }
@@ -92,14 +66,10 @@ fn line_of(sort: u8, bytes: &[u8]) -> Option<Line<'_>>
 pub fn first_line(s: &[u8]) -> Option<Line<'_>>
     ensures { shown_first result ≡ first_line s.now }
 {
-    if s.len() < 2 {
+    let [n, sort, ..] = s else {
         return None;
-    }
-    let n = s[0] as usize;
-    if s.len() < n {
-        return None;
-    }
-    line_of(s[1], part(s, 0, n))
+    };
+    line_of(*sort, s.get(..usize::from(*n))?)
 }
 
 impl<'a> Line<'a> {
@@ -109,13 +79,9 @@ impl<'a> Line<'a> {
     {
         match self {
             Line::Field(f) => 12 + f.argument.len(),
-            Line::Group { tag: _, size: _ } => 8,
+            Line::Group { .. } => 8,
             Line::End => 2,
-            Line::Data {
-                tag: _,
-                since: _,
-                longest: _,
-            } => 9,
+            Line::Data { .. } => 9,
         }
     }
 
@@ -125,13 +91,8 @@ impl<'a> Line<'a> {
     {
         match self {
             Line::Field(f) => f.tag,
-            Line::Group { tag, size: _ } => tag,
+            Line::Group { tag, .. } | Line::Data { tag, .. } => tag,
             Line::End => 0,
-            Line::Data {
-                tag,
-                since: _,
-                longest: _,
-            } => tag,
         }
     }
 }

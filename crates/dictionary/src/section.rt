@@ -5,12 +5,13 @@ ghost use Rattle.schema.specs.Shape.{sections_shape};
 ghost use Rattle.dictionary.specs.Shown.{shown_section, shown_first_section};
 ghost use Rattle.dictionary.specs.Steps.{section_shape};
 
-use crate::line::u16_at;
+use crate::line::number_at;
+use crate::sections::Sections;
 use crate::shape::check_lines;
 use wire::{Reason, Refusal, part, tail};
 
 // A template's head, and the bytes of its lines.
-#[derive(Clone, Copy)]
+#[derive(Clone, Copy, PartialEq, Eq)]
 pub struct Section<'a> {
     pub number: u16,
     pub since: u16,
@@ -25,15 +26,15 @@ pub fn first_section(s: &[u8]) -> Option<Section<'_>>
     if s.len() < 8 {
         return None;
     }
-    let n = u16_at(s, 0) as usize;
+    let n = number_at::<2>(s, 0) as usize;
     if n < 8 || s.len() < n {
         return None;
     }
     let all = part(s, 0, n);
     Some(Section {
-        number: u16_at(all, 2),
-        since: u16_at(all, 4),
-        size: u16_at(all, 6),
+        number: number_at::<2>(all, 2) as u16,
+        since: number_at::<2>(all, 4) as u16,
+        size: number_at::<2>(all, 6) as u16,
         body: tail(all, 8),
     })
 }
@@ -51,12 +52,8 @@ impl<'a> Section<'a> {
         requires { place + 8 + length self.body.now < 2 ^ 63 }
         ensures { result ≡ section_shape least place (shown_section self.entry) }
     {
-        if (self.number as u32) < least {
-            return Err(Refusal {
-                reason: Reason::LineName,
-                place,
-                tag: 0,
-            });
+        if u32::from(self.number) < least {
+            return Err(Reason::LineName.at(place, 0));
         }
         check_lines(self.body, place + 8)
     }
@@ -67,19 +64,18 @@ pub fn check_sections(templates: &[u8]) -> Result<(), Refusal>
     requires { length templates.now < 2 ^ 62 }
     ensures { result ≡ sections_shape 0 7 (sections templates.now) }
 {
-    let mut at = 0;
+    // What the walk leaves tells whether the next template is broken, so the walk is kept beside the loop.
+    let mut sections = Sections::of(templates);
+    let mut place = 7;
     let mut least = 0;
-    while at < templates.len() {
-        let Some(section) = first_section(tail(templates, at)) else {
-            return Err(Refusal {
-                reason: Reason::LineShape,
-                place: 7 + at,
-                tag: 0,
-            });
-        };
-        section.check_shape(least, 7 + at)?;
-        least = section.number as u32 + 1;
-        at += section.bytes();
+    while let Some(section) = sections.next() {
+        section.check_shape(least, place)?;
+        least = u32::from(section.number) + 1;
+        place += section.bytes();
     }
-    Ok(())
+    if sections.rest.is_empty() {
+        Ok(())
+    } else {
+        Err(Reason::LineShape.at(place, 0))
+    }
 }

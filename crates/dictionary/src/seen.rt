@@ -9,8 +9,8 @@ use crate::line::{FieldLine, Line, first_line};
 pub fn seen_field(lines: &[u8], version: u16) -> Option<FieldLine<'_>>
     ensures { shown_seen result ≡ seen_first version (first_line lines.now) }
 {
-    match first_line(lines) {
-        Some(Line::Field(f)) => { if f.since <= version { Some(f) } else { None } }
+    match first_line(lines)? {
+        Line::Field(f) if f.since <= version => Some(f),
         _ => None,
     }
 }

@@ -1,12 +1,13 @@
 // Shape and names: what lines follow one another, and that numbers rise and tags differ.
-ghost use Rattle.std.specs.Prelude.{◌≡◌, ◌+◌, ◌^◌, ◌<◌, ◌≤◌, length, take, drop};
-ghost use Rattle.schema.specs.Lines.{lines, there, first_line};
+ghost use Rattle.std.specs.Prelude.{◌≡◌, ◌+◌, ◌^◌, ◌<◌, ◌≤◌, length, Some};
+ghost use Rattle.schema.specs.Lines.{lines, there};
 ghost use Rattle.schema.specs.Shape.{in_order, ended, lines_shape, nothing_above};
 ghost use Rattle.dictionary.specs.Shown.{shown_line};
 ghost use Rattle.dictionary.specs.Surveys.{staged, gathered_field, gathered_past, gathered_from, nothing_gathered, above_from, new_among, named, own_tags, line_judged, line_weighed};
 
-use crate::line::{Line, first_line};
-use wire::{Reason, Refusal, part, tail};
+use crate::line::Line;
+use crate::lines::Lines;
+use wire::{Reason, Refusal, part};
 
 // At most so many fields in a block, and groups and data in a template.
 const MOST_FIELDS: usize = 64;
@@ -25,6 +26,7 @@ pub enum Stage {
 }
 
 // What the lines above a line say of a tag: whether the root's fields, groups and data have it, and the fields of the block that stands open; and how many of each there are.
+// The two facts are independent of one another and of the stage, so they are no enum.
 #[derive(Clone, Copy)]
 pub struct Survey {
     pub stage: Stage,
@@ -39,51 +41,11 @@ pub struct Survey {
 fn is_in_order(stage: Stage, line: Line<'_>) -> bool
     ensures { result ≡ in_order (staged stage) (shown_line line.entry) }
 {
-    match (stage, line) {
-        (Stage::Root, Line::Field(_)) => true,
-        (Stage::Root, Line::Group { tag: _, size: _ }) => true,
-        (Stage::Root, Line::End) => false,
-        (
-            Stage::Root,
-            Line::Data {
-                tag: _,
-                since: _,
-                longest: _,
-            },
-        ) => true,
-        (Stage::Inside(_), Line::Field(_)) => true,
-        (Stage::Inside(_), Line::Group { tag: _, size: _ }) => false,
-        (Stage::Inside(_), Line::End) => true,
-        (
-            Stage::Inside(_),
-            Line::Data {
-                tag: _,
-                since: _,
-                longest: _,
-            },
-        ) => false,
-        (Stage::Behind, Line::Field(_)) => false,
-        (Stage::Behind, Line::Group { tag: _, size: _ }) => true,
-        (Stage::Behind, Line::End) => false,
-        (
-            Stage::Behind,
-            Line::Data {
-                tag: _,
-                since: _,
-                longest: _,
-            },
-        ) => true,
-        (Stage::Closing, Line::Field(_)) => false,
-        (Stage::Closing, Line::Group { tag: _, size: _ }) => false,
-        (Stage::Closing, Line::End) => false,
-        (
-            Stage::Closing,
-            Line::Data {
-                tag: _,
-                since: _,
-                longest: _,
-            },
-        ) => true,
+    match stage {
+        Stage::Root => !matches!(line, Line::End),
+        Stage::Inside(_) => matches!(line, Line::Field(_) | Line::End),
+        Stage::Behind => matches!(line, Line::Group { .. } | Line::Data { .. }),
+        Stage::Closing => matches!(line, Line::Data { .. }),
     }
 }
 
@@ -114,9 +76,7 @@ impl Survey {
     {
         match self.stage {
             Stage::Inside(_) => self.inner,
-            Stage::Root => self.outer,
-            Stage::Behind => self.outer,
-            Stage::Closing => self.outer,
+            Stage::Root | Stage::Behind | Stage::Closing => self.outer,
         }
     }
 
@@ -126,13 +86,9 @@ impl Survey {
     {
         match line {
             Line::Field(f) => is_new(f.tag, self.has_field_tag()) && self.fields < MOST_FIELDS,
-            Line::Group { tag, size: _ } => is_new(tag, self.outer) && self.groups < MOST_GROUPS,
+            Line::Group { tag, .. } => is_new(tag, self.outer) && self.groups < MOST_GROUPS,
             Line::End => true,
-            Line::Data {
-                tag,
-                since: _,
-                longest: _,
-            } => is_new(tag, self.outer) && self.parts < MOST_DATA,
+            Line::Data { tag, .. } => is_new(tag, self.outer) && self.parts < MOST_DATA,
         }
     }
 
@@ -145,23 +101,17 @@ impl Survey {
         let found = tag == sought;
         match self.stage {
             Stage::Root => Survey {
-                stage: self.stage,
                 outer: found || self.outer,
                 inner: found || self.inner,
                 fields: self.fields + 1,
-                groups: self.groups,
-                parts: self.parts,
+                ..self
             },
             Stage::Inside(_) => Survey {
-                stage: self.stage,
-                outer: self.outer,
                 inner: found || self.inner,
                 fields: self.fields + 1,
-                groups: self.groups,
-                parts: self.parts,
+                ..self
             },
-            Stage::Behind => self,
-            Stage::Closing => self,
+            Stage::Behind | Stage::Closing => self,
         }
     }
 
@@ -173,33 +123,27 @@ impl Survey {
     {
         match line {
             Line::Field(f) => self.past_field(sought, f.tag),
-            Line::Group { tag, size: _ } => Survey {
+            Line::Group { tag, .. } => Survey {
                 stage: Stage::Inside(place),
                 outer: tag == sought || self.outer,
                 inner: false,
                 fields: 0,
                 groups: self.groups + 1,
-                parts: self.parts,
+                ..self
             },
             Line::End => Survey {
                 stage: Stage::Behind,
-                outer: self.outer,
                 inner: false,
                 fields: 0,
-                groups: self.groups,
-                parts: self.parts,
+                ..self
             },
-            Line::Data {
-                tag,
-                since: _,
-                longest: _,
-            } => Survey {
+            Line::Data { tag, .. } => Survey {
                 stage: Stage::Closing,
                 outer: tag == sought || self.outer,
                 inner: false,
                 fields: 0,
-                groups: self.groups,
                 parts: self.parts + 1,
+                ..self
             },
         }
     }
@@ -209,18 +153,10 @@ impl Survey {
         ensures { result ≡ line_weighed self place (shown_line line.entry) }
     {
         if !is_in_order(self.stage, line) {
-            return Err(Refusal {
-                reason: Reason::LineShape,
-                place,
-                tag: 0,
-            });
+            return Err(Reason::LineShape.at(place, 0));
         }
         if !self.takes(line) {
-            return Err(Refusal {
-                reason: Reason::LineName,
-                place,
-                tag: 0,
-            });
+            return Err(Reason::LineName.at(place, 0));
         }
         Ok(line.size())
     }
@@ -230,14 +166,8 @@ impl Survey {
         ensures { result ≡ ended (staged self.stage) }
     {
         match self.stage {
-            Stage::Inside(place) => Err(Refusal {
-                reason: Reason::LineShape,
-                place,
-                tag: 0,
-            }),
-            Stage::Root => Ok(()),
-            Stage::Behind => Ok(()),
-            Stage::Closing => Ok(()),
+            Stage::Inside(place) => Err(Reason::LineShape.at(place, 0)),
+            Stage::Root | Stage::Behind | Stage::Closing => Ok(()),
         }
     }
 }
@@ -248,31 +178,20 @@ fn survey_of(before: &[u8], place: usize, sought: u32) -> Survey
     ensures { result ≡ gathered_from sought nothing_gathered place (there (lines before.now)) }
 {
     let mut above = Survey::start();
-    let mut at = 0;
-    while at < before.len() {
-        let Some(line) = first_line(tail(before, at)) else {
-            return above;
-        };
-        above = above.past(sought, place + at, line);
+    let mut at = place;
+    for line in Lines::of(before) {
+        above = above.past(sought, at, line);
         at += line.size();
     }
     above
 }
 
-// The line at a place of a template's lines, judged by those above it: its size.
-fn judge_line(body: &[u8], place: usize, at: usize) -> Result<usize, Refusal>
-    requires within { at < length body.now }
-    requires room { place + length body.now < 2 ^ 63 }
-    ensures { result ≡ line_judged (above_from nothing_above place (there (lines (take at body.now)))) (place + at) (first_line (drop at body.now)) }
+// A line of a template whose lines begin at a place, judged by those above it: its size.
+fn judge_line(above: &[u8], place: usize, line: Line<'_>) -> Result<usize, Refusal>
+    requires { place + length above.now < 2 ^ 63 }
+    ensures { result ≡ line_judged (above_from nothing_above place (there (lines above.now))) (place + length above.now) (Some (shown_line line.entry)) }
 {
-    let Some(line) = first_line(tail(body, at)) else {
-        return Err(Refusal {
-            reason: Reason::LineShape,
-            place: place + at,
-            tag: 0,
-        });
-    };
-    survey_of(part(body, 0, at), place, line.tag()).weigh(place + at, line)
+    survey_of(above, place, line.tag()).weigh(place + above.len(), line)
 }
 
 // The lines of a template, from a place on: each of a known sort and length, in order, well named, and each group ended.
@@ -280,9 +199,15 @@ pub fn check_lines(body: &[u8], place: usize) -> Result<(), Refusal>
     requires { place + length body.now < 2 ^ 63 }
     ensures { result ≡ lines_shape nothing_above place (lines body.now) }
 {
+    // What the walk leaves tells whether the next line is broken, so the walk is kept beside the loop.
+    let mut lines = Lines::of(body);
     let mut at = 0;
-    while at < body.len() {
-        at += judge_line(body, place, at)?;
+    while let Some(line) = lines.next() {
+        at += judge_line(part(body, 0, at), place, line)?;
     }
-    survey_of(body, place, 0).end()
+    if lines.rest.is_empty() {
+        survey_of(body, place, 0).end()
+    } else {
+        Err(Reason::LineShape.at(place + at, 0))
+    }
 }
