@@ -1,71 +1,82 @@
--- What bytes hold, one after the other, as the code walks over it. Assumes nothing.
-use Rattle.std.specs.Prelude.{◌≡◌, ℕ, ◌+◌, ◌≤◌, List, [], ◌∷◌, map, length, Some, None, Option}
+-- What the walks over bytes hand out, one after the other. Assumes nothing.
+use Rattle.std.specs.Prelude.{◌≡◌, List, None, Some, Option}
 use Rattle.schema.specs.Structure.{Field, Group, Data, Template}
-use Rattle.schema.specs.Lines.{Line, line_size, lines, there}
-use Rattle.schema.specs.Sections.{sections}
-use Rattle.schema.specs.Reading.{fields_of, groups_of, parts_of, template_of}
+use Rattle.schema.specs.Reading.{template_of}
 use Rattle.schema.specs.Seen.{seen_fields, seen_parts, seen_template, seen}
-use Rattle.dictionary.specs.Shown.{shown_line, shown_field, shown_section}
-use Rattle.lines.specs.declared.step.NextLine.{NextLine}
-use Rattle.lines.specs.declared.fields.NextField.{NextField}
-use Rattle.lines.specs.declared.groups.NextGroup.{NextGroup}
-use Rattle.lines.specs.declared.parts.NextPart.{NextPart}
-use Rattle.lines.specs.declared.templates.NextTemplate.{NextTemplate}
+use Rattle.dictionary.specs.declared.line.FieldLine.{FieldLine}
+use Rattle.dictionary.specs.declared.section.Section.{Section}
+use Rattle.dictionary.specs.Shown.{shown_field, shown_section}
+use Rattle.dictionary.specs.Walks.{Gives}
+use Rattle.lines.specs.Held.{fields_in, groups_in, parts_in, templates_in}
+use Rattle.lines.specs.declared.fields.Fields.{Fields}
+use Rattle.lines.specs.declared.fields.SeenFields.{SeenFields}
+use Rattle.lines.specs.declared.groups.GroupLine.{GroupLine}
+use Rattle.lines.specs.declared.groups.Groups.{Groups}
+use Rattle.lines.specs.declared.parts.PartLine.{PartLine}
+use Rattle.lines.specs.declared.parts.Parts.{Parts}
+use Rattle.lines.specs.declared.parts.SeenParts.{SeenParts}
+use Rattle.lines.specs.declared.templates.Templates.{Templates}
+use Rattle.lines.specs.declared.templates.SeenTemplates.{SeenTemplates}
 
-abbrev pub lines_in : List ℕ → List Line
-lines_in s = there (lines s)
+abbrev pub fields_left : Fields → List Field
+fields_left w = fields_in w.rest.now
 
--- the fields of the block that lines begin with
-abbrev pub fields_in : List ℕ → List Field
-fields_in s = fields_of (lines_in s)
+abbrev pub GivesField : Fields → Option FieldLine → Fields → Type 0
+GivesField = Gives (λ _. 12) shown_field (λ w. w.rest.now) fields_left
 
-abbrev pub groups_in : List ℕ → List Group
-groups_in s = groups_of (lines_in s)
+-- those of them that are seen at the version
+abbrev pub seen_fields_left : SeenFields → List Field
+seen_fields_left w = seen_fields w.version (fields_left w.fields)
 
-abbrev pub parts_in : List ℕ → List Data
-parts_in s = parts_of (lines_in s)
-
-abbrev pub templates_in : List ℕ → List Template
-templates_in s = map template_of (there (sections s))
-
--- the first of what bytes hold and the bytes behind it, fewer by what it takes at least; or None, where they hold nothing
-abbrev pub Next : {S X : Type 0} → ℕ → (S → X) → (S → List ℕ) → (List ℕ → List X) → Option S → List ℕ → Type 0
-Next takes first rest held None s = held s ≡ []
-Next takes first rest held (Some x) s = (held s ≡ first x ∷ held (rest x)) × (length (rest x) + takes ≤ length s)
-
--- a line by its size
-abbrev pub IsNextLine : Option NextLine → List ℕ → Type 0
-IsNextLine None s = lines_in s ≡ []
-IsNextLine (Some x) s = (lines_in s ≡ shown_line x.line ∷ lines_in x.rest.now) × (length x.rest.now + line_size (shown_line x.line) ≤ length s)
-
-abbrev pub IsNextField : Option NextField → List ℕ → Type 0
-IsNextField o s = Next 12 (λ (x : NextField). shown_field x.field) (λ x. x.rest.now) fields_in o s
-
--- the same among those that are seen at v
-abbrev pub NextSeenField : ℕ → Option NextField → List ℕ → Type 0
-NextSeenField v o s = Next 12 (λ (x : NextField). shown_field x.field) (λ x. x.rest.now) (λ t. seen_fields v (fields_in t)) o s
+-- the version stays
+abbrev pub GivesSeenField : SeenFields → Option FieldLine → SeenFields → Type 0
+GivesSeenField w o w' = Gives (λ _. 12) shown_field (λ x. x.fields.rest.now) seen_fields_left w o w' × (w'.version ≡ w.version)
 
 -- a group by its line and the lines that follow it
-abbrev pub group_at : NextGroup → Group
-group_at x = record { tag = x.tag; block = record { size = x.size; fields = fields_in x.rest.now } }
+abbrev pub group_at : GroupLine → Group
+group_at x = record { tag = x.tag; block = record { size = x.size; fields = fields_in x.lines.now } }
 
-abbrev pub IsNextGroup : Option NextGroup → List ℕ → Type 0
-IsNextGroup o s = Next 8 group_at (λ x. x.rest.now) groups_in o s
+abbrev pub groups_left : Groups → List Group
+groups_left w = groups_in w.lines.rest.now
 
-abbrev pub data_at : NextPart → Data
+-- the lines that follow a group's line are those in which the others are left
+abbrev pub FollowsGroup : Option GroupLine → Groups → Type 0
+FollowsGroup None w' = Unit {0}
+FollowsGroup (Some x) w' = x.lines.now ≡ w'.lines.rest.now
+
+abbrev pub GivesGroup : Groups → Option GroupLine → Groups → Type 0
+GivesGroup w o w' = Gives (λ _. 8) group_at (λ x. x.lines.rest.now) groups_left w o w' × FollowsGroup o w'
+
+abbrev pub data_at : PartLine → Data
 data_at x = record { tag = x.tag; since = x.since; longest = x.longest; prefix = 1 }
 
-abbrev pub IsNextPart : Option NextPart → List ℕ → Type 0
-IsNextPart o s = Next 9 data_at (λ x. x.rest.now) parts_in o s
+abbrev pub parts_left : Parts → List Data
+parts_left w = parts_in w.lines.rest.now
 
-abbrev pub NextSeenPart : ℕ → Option NextPart → List ℕ → Type 0
-NextSeenPart v o s = Next 9 data_at (λ x. x.rest.now) (λ t. seen_parts v (parts_in t)) o s
+abbrev pub GivesPart : Parts → Option PartLine → Parts → Type 0
+GivesPart = Gives (λ _. 9) data_at (λ w. w.lines.rest.now) parts_left
 
-abbrev pub template_at : NextTemplate → Template
-template_at x = template_of (shown_section x.section)
+-- those of them that are seen at the version
+abbrev pub seen_parts_left : SeenParts → List Data
+seen_parts_left w = seen_parts w.version (parts_left w.parts)
 
-abbrev pub IsNextTemplate : Option NextTemplate → List ℕ → Type 0
-IsNextTemplate o s = Next 8 template_at (λ x. x.rest.now) templates_in o s
+-- the version stays
+abbrev pub GivesSeenPart : SeenParts → Option PartLine → SeenParts → Type 0
+GivesSeenPart w o w' = Gives (λ _. 9) data_at (λ x. x.parts.lines.rest.now) seen_parts_left w o w' × (w'.version ≡ w.version)
 
-abbrev pub NextSeenTemplate : ℕ → Option NextTemplate → List ℕ → Type 0
-NextSeenTemplate v o s = Next 8 (λ (x : NextTemplate). seen_template v (template_at x)) (λ x. x.rest.now) (λ t. seen v (templates_in t)) o s
+abbrev pub template_at : Section → Template
+template_at x = template_of (shown_section x)
+
+abbrev pub templates_left : Templates → List Template
+templates_left w = templates_in w.sections.rest.now
+
+abbrev pub GivesTemplate : Templates → Option Section → Templates → Type 0
+GivesTemplate = Gives (λ _. 8) template_at (λ w. w.sections.rest.now) templates_left
+
+-- those of them that are seen at the version, as they are seen at it
+abbrev pub seen_templates_left : SeenTemplates → List Template
+seen_templates_left w = seen w.version (templates_left w.templates)
+
+-- the version stays
+abbrev pub GivesSeenTemplate : SeenTemplates → Option Section → SeenTemplates → Type 0
+GivesSeenTemplate w o w' = Gives (λ _. 8) (λ x. seen_template w.version (template_at x)) (λ x. x.templates.sections.rest.now) seen_templates_left w o w' × (w'.version ≡ w.version)

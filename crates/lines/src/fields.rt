@@ -1,51 +1,86 @@
 // The fields of a block, as they are seen at a version.
 ghost use Rattle.std.specs.Prelude.{◌≡◌};
 ghost use Rattle.schema.specs.Seen.{length_at};
-ghost use Rattle.lines.specs.Walks.{fields_in, IsNextField, NextSeenField};
+ghost use Rattle.lines.specs.Held.{fields_in};
 
-use crate::step::next_line;
-use dictionary::{FieldLine, Line};
+use dictionary::{FieldLine, Line, Lines};
 
-// A field and what follows it.
+// The fields of a block that are still to come.
 #[derive(Clone, Copy)]
-pub struct NextField<'a> {
-    pub field: FieldLine<'a>,
+pub struct Fields<'a> {
     pub rest: &'a [u8],
 }
 
-// The field that the lines begin with.
-pub fn next_field(lines: &[u8]) -> Option<NextField<'_>>
-    ensures { IsNextField result lines.now }
-{
-    let Some(next) = next_line(lines) else {
-        return None;
-    };
-    match next.line {
-        Line::Field(field) => Some(NextField {
-            field,
-            rest: next.rest,
-        }),
-        Line::Group { tag: _, size: _ } => None,
-        Line::End => None,
-        Line::Data {
-            tag: _,
-            since: _,
-            longest: _,
-        } => None,
+impl<'a> Fields<'a> {
+    // The fields that the lines begin with.
+    pub fn of(lines: &'a [u8]) -> Fields<'a>
+        ensures { result.rest.now ≡ lines.now }
+    {
+        Fields { rest: lines }
     }
 }
 
-// The same, unless it is newer than v.
-pub fn next_seen_field(v: u16, lines: &[u8]) -> Option<NextField<'_>>
-    ensures { NextSeenField v result lines.now }
-{
-    let Some(next) = next_field(lines) else {
-        return None;
-    };
-    if next.field.since <= v {
-        Some(next)
-    } else {
-        None
+impl<'a> Iterator for Fields<'a> {
+    ghost use Rattle.std.specs.Iterator.{item_count};
+    ghost use Rattle.lines.specs.Walks.{fields_left, GivesField};
+
+    type Item = FieldLine<'a>;
+
+    ghost next_gives = { GivesField };
+
+    ghost remaining = { item_count fields_left };
+
+    fn next(&mut self) -> Option<FieldLine<'a>> {
+        let mut lines = Lines::of(self.rest);
+        match lines.next() {
+            Some(Line::Field(field)) => {
+                self.rest = lines.rest;
+                Some(field)
+            }
+            _ => None,
+        }
+    }
+}
+
+// Those of them that are not newer than the version.
+#[derive(Clone, Copy)]
+pub struct SeenFields<'a> {
+    pub version: u16,
+    pub fields: Fields<'a>,
+}
+
+impl<'a> SeenFields<'a> {
+    // The fields that the lines begin with, as far as they are seen at the version.
+    pub fn of(version: u16, lines: &'a [u8]) -> SeenFields<'a>
+        ensures version { result.version ≡ version }
+        ensures bytes { result.fields.rest.now ≡ lines.now }
+    {
+        SeenFields {
+            version,
+            fields: Fields::of(lines),
+        }
+    }
+}
+
+impl<'a> Iterator for SeenFields<'a> {
+    ghost use Rattle.std.specs.Iterator.{item_count};
+    ghost use Rattle.lines.specs.Walks.{seen_fields_left, GivesSeenField};
+
+    type Item = FieldLine<'a>;
+
+    ghost next_gives = { GivesSeenField };
+
+    ghost remaining = { item_count seen_fields_left };
+
+    fn next(&mut self) -> Option<FieldLine<'a>> {
+        let mut fields = self.fields;
+        match fields.next() {
+            Some(field) if field.since <= self.version => {
+                self.fields = fields;
+                Some(field)
+            }
+            _ => None,
+        }
     }
 }
 
@@ -53,12 +88,7 @@ pub fn next_seen_field(v: u16, lines: &[u8]) -> Option<NextField<'_>>
 pub fn length_at(v: u16, size: u16, lines: &[u8]) -> u16
     ensures { result ≡ length_at v size (fields_in lines.now) }
 {
-    let mut rest = lines;
-    while let Some(next) = next_field(rest) {
-        if next.field.since > v {
-            return next.field.offset;
-        }
-        rest = next.rest;
-    }
-    size
+    Fields::of(lines)
+        .find(|f| f.since > v)
+        .map_or(size, |f| f.offset)
 }
