@@ -9,7 +9,7 @@ use Rattle.schema.specs.Seen.{seen}
 use Rattle.schema.specs.Editions.{EarlierEdition}
 use Rattle.schema.proofs.Verdicts.{decides_leb}
 use Rattle.edition.specs.Same.{same_lists, same_field, same_block, same_group, same_data, same_template}
-use Rattle.lines.specs.Walks.{templates_in}
+use Rattle.lines.specs.Held.{templates_in}
 use Rattle.edition.specs.Earlier.{is_earlier}
 
 never : {X : Type 0} (x : X) (xs : List X) → ◌≡◌ {A = List X} [] (x ∷ xs) → ⊥

@@ -1,5 +1,6 @@
 -- Tests that two parts of a dictionary say the same. Assumes nothing.
-use Rattle.std.specs.Prelude.{Bool, true, false, ◌&&◌, List, [], ◌∷◌, ◌==◌}
+use Rattle.std.specs.Prelude.{◌≡◌, Bool, true, false, ◌&&◌, List, [], ◌∷◌, Some, None, Option, ◌==◌}
+use Rattle.std.specs.Iterator.{Yields}
 use Rattle.std.specs.Str.{bytes_eq}
 use Rattle.schema.specs.Structure.{Field, Block, Group, Data, Template}
 
@@ -9,6 +10,13 @@ same_lists same [] [] = true
 same_lists same [] (y ∷ ys) = false
 same_lists same (x ∷ xs) [] = false
 same_lists same (x ∷ xs) (y ∷ ys) = same x y && same_lists same xs ys
+
+-- a test of two walks that goes on by what is said of their items, place by place: it is true where both end, and false where one ends before the other; the first walk began at `start`
+pub record GoesOnBy {W U A B : Type 0} (gives : W → Option A → W → Type 0) (others : U → Option B → U → Type 0) (says : A → B → Bool → Type 0) (start : W) (test : W → U → Bool) : Type 0 where
+  pub both : (before : List A) (w w' : W) (u u' : U) (a : A) (b : B) (r : Bool) → Yields gives start before w → gives w (Some a) w' → others u (Some b) u' → says a b r → test w u ≡ (r && test w' u')
+  pub more : (before : List A) (w w' : W) (u u' : U) (a : A) → Yields gives start before w → gives w (Some a) w' → others u None u' → test w u ≡ false
+  pub fewer : (before : List A) (w w' : W) (u u' : U) (b : B) → Yields gives start before w → gives w None w' → others u (Some b) u' → test w u ≡ false
+  pub none : (before : List A) (w w' : W) (u u' : U) → Yields gives start before w → gives w None w' → others u None u' → test w u ≡ true
 
 abbrev pub same_field : Field → Field → Bool
 same_field f g = f.tag == g.tag && (f.offset == g.offset && (f.since == g.since && (f.type == g.type && (f.presence == g.presence && bytes_eq f.argument g.argument))))

@@ -11,6 +11,7 @@ ghost use Rattle.edition.specs.Earlier.{is_earlier};
 
 mod fields;
 mod groups;
+mod lists;
 mod parts;
 mod templates;
 

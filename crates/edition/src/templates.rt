@@ -1,16 +1,19 @@
-// The templates of a dictionary, as they are seen at a version.
+// Whether the templates of two dictionaries are the same.
 ghost use Rattle.std.specs.Prelude.{◌≡◌};
 ghost use Rattle.schema.specs.Reading.{template_of};
 ghost use Rattle.schema.specs.Seen.{seen_template, seen};
 ghost use Rattle.dictionary.specs.Shown.{shown_section};
 ghost use Rattle.edition.specs.Same.{same_lists, same_template};
-ghost use Rattle.lines.specs.Walks.{templates_in};
+ghost use Rattle.lines.specs.Held.{templates_in};
 
 use crate::fields::same_fields;
 use crate::groups::same_groups;
+use crate::lists::eq_by;
 use crate::parts::same_parts;
 use dictionary::Section;
-use lines::{length_at, next_seen_template, next_template};
+use lines::{SeenTemplates, Templates, length_at};
+
+// A version and two parts of dictionaries stay three parameters: each function takes other parts, and a struct of the three would be made anew in each.
 
 // Whether the later template seen at v is the earlier one.
 fn same_template(v: u16, later: Section<'_>, earlier: Section<'_>) -> bool
@@ -28,20 +31,9 @@ fn same_template(v: u16, later: Section<'_>, earlier: Section<'_>) -> bool
 pub fn same_templates(v: u16, later: &[u8], earlier: &[u8]) -> bool
     ensures { result ≡ same_lists same_template (seen v (templates_in later.now)) (templates_in earlier.now) }
 {
-    let mut left = later;
-    let mut right = earlier;
-    while let Some(a) = next_seen_template(v, left) {
-        let Some(b) = next_template(right) else {
-            return false;
-        };
-        if !same_template(v, a.section, b.section) {
-            return false;
-        }
-        left = a.rest;
-        right = b.rest;
-    }
-    match next_template(right) {
-        Some(_) => false,
-        None => true,
-    }
+    eq_by(
+        SeenTemplates::of(v, later),
+        Templates::of(earlier),
+        |a, b| { same_template(v, a, b) },
+    )
 }
