@@ -7,11 +7,12 @@ use Rattle.wire.specs.Refusals.{refusal, bind}
 use Rattle.types.specs.Kinds.{Known}
 use Rattle.schema.specs.Verdicts.{Verdict, fine, rule, ◌then◌}
 use Rattle.schema.specs.Lines.{lines, there}
-use Rattle.schema.specs.Reading.{fields_of, groups_of}
+use Rattle.schema.specs.Structure.{Group}
+use Rattle.schema.specs.Reading.{fields_of}
 use Rattle.schema.specs.Seen.{seen_group, length_at}
-use Rattle.message.specs.Frames.{entries_verdict, group_verdict, groups_verdict, group_length, groups_length, entry_length, entry_count, length_fits, count_fits}
+use Rattle.message.specs.Frames.{GroupView, entries_verdict, group_verdict, groups_verdict, group_length, groups_length, entry_length, entry_count, length_fits, count_fits}
 use Rattle.message.specs.Messages.{group_view}
-use Rattle.judging.specs.Steps.{block_at, head_verdict, group_step, groups_step, groups_seen}
+use Rattle.judging.specs.Steps.{block_at, head_verdict, group_step, groups_step}
 use Rattle.judging.proofs.Entries.{entries_there}
 
 -- what is left, with what was passed before it, is the whole
@@ -47,15 +48,19 @@ left_same : (passed passed' : ℕ) (r r' all : Result ℕ Refusal) → passed �
 left_same passed passed' r r' all e f h = subst (λ x. Left passed' x all) f (subst (λ k. Left k r all) e h)
 
 module _ (known : Known) (version : ℕ) (closed newer : Bool) where
+  -- groups as they are seen at the version
+  abbrev pub views : List Group → List GroupView
+  views gs = map (group_view known) (map (seen_group version) gs)
+
   -- a group's verdict is that of its head and that of its entries
   apart : (tag size : ℕ) (s : List ℕ) (p : ℕ) (bs : List ℕ) → group_verdict closed newer (record { tag = tag; block = block_at known version size s }) p bs ≡ (head_verdict newer tag (length_at version size (fields_of (there (lines s)))) p bs then entries_verdict closed (block_at known version size s) (entry_length bs) tag (entry_count bs) (p + 3) (drop 3 bs))
   apart tag size s p bs =
       four (rule (leb 3 (length bs)) reason.PastEnd p tag) (rule (length_fits newer (entry_length bs) (length_at version size (fields_of (there (lines s))))) reason.BlockLength p tag) (rule (count_fits (entry_count bs)) reason.TooMany (p + 2) tag)
       (entries_verdict closed (block_at known version size s) (entry_length bs) tag (entry_count bs) (p + 3) (drop 3 bs))
 
-  -- the groups of lines that begin with one
-  one_first : (s s' : List ℕ) (tag size : ℕ) (p : ℕ) (bs : List ℕ) → groups_of (there (lines s)) ≡ record { tag = tag; block = record { size = size; fields = fields_of (there (lines s')) } } ∷ groups_of (there (lines s')) → groups_step closed newer (groups_seen known version s) p bs ≡ bind (group_verdict closed newer (record { tag = tag; block = block_at known version size s' }) p bs then groups_verdict closed newer (groups_seen known version s') (p + group_length bs) (drop (group_length bs) bs)) (λ _. Ok (group_length bs + groups_length (groups_seen known version s') (drop (group_length bs) bs)))
-  one_first s s' tag size p bs e = ap (λ gs. groups_step closed newer (map (group_view known) (map (seen_group version) gs)) p bs) e
+  -- groups of which one is the first, by the lines of its fields
+  one_first : (gs gs' : List Group) (s : List ℕ) (tag size : ℕ) (p : ℕ) (bs : List ℕ) → gs ≡ record { tag = tag; block = record { size = size; fields = fields_of (there (lines s)) } } ∷ gs' → groups_step closed newer (views gs) p bs ≡ bind (group_verdict closed newer (record { tag = tag; block = block_at known version size s }) p bs then groups_verdict closed newer (views gs') (p + group_length bs) (drop (group_length bs) bs)) (λ _. Ok (group_length bs + groups_length (views gs') (drop (group_length bs) bs)))
+  one_first gs gs' s tag size p bs e = ap (λ hs. groups_step closed newer (views hs) p bs) e
 
   -- a group that passes is there
   pub group_there : (tag size : ℕ) (s : List ℕ) (p n : ℕ) (bs : List ℕ) → group_step known version closed newer tag size s p bs ≡ Ok n → (n ≡ group_length bs) × (n ≤ length bs)
@@ -67,38 +72,38 @@ module _ (known : Known) (version : ℕ) (closed newer : Bool) where
       let same = t.1 in
       (sym same, omega arith)
 
-  pub groups_more : (s s' : List ℕ) (tag size n place passed : ℕ) (bs bs' : List ℕ) (r all : Result ℕ Refusal) → groups_of (there (lines s)) ≡ record { tag = tag; block = record { size = size; fields = fields_of (there (lines s')) } } ∷ groups_of (there (lines s')) → r ≡ group_step known version closed newer tag size s' (place + passed) bs → r ≡ Ok n → bs' ≡ drop n bs → Left passed (groups_step closed newer (groups_seen known version s) (place + passed) bs) all → Left (passed + n) (groups_step closed newer (groups_seen known version s') (place + (passed + n)) bs') all
-  groups_more s s' tag size n place passed bs bs' r all e is ok ebs whole =
+  pub groups_more : (gs gs' : List Group) (s : List ℕ) (tag size n place passed : ℕ) (bs bs' : List ℕ) (r all : Result ℕ Refusal) → gs ≡ record { tag = tag; block = record { size = size; fields = fields_of (there (lines s)) } } ∷ gs' → r ≡ group_step known version closed newer tag size s (place + passed) bs → r ≡ Ok n → bs' ≡ drop n bs → Left passed (groups_step closed newer (views gs) (place + passed) bs) all → Left (passed + n) (groups_step closed newer (views gs') (place + (passed + n)) bs') all
+  groups_more gs gs' s tag size n place passed bs bs' r all e is ok ebs whole =
       let p = place + passed in
-      let vs = groups_seen known version s' in
-      let head = head_verdict newer tag (length_at version size (fields_of (there (lines s')))) p bs in
-      let entries = entries_verdict closed (block_at known version size s') (entry_length bs) tag (entry_count bs) (p + 3) (drop 3 bs) in
+      let vs = views gs' in
+      let head = head_verdict newer tag (length_at version size (fields_of (there (lines s)))) p bs in
+      let entries = entries_verdict closed (block_at known version size s) (entry_length bs) tag (entry_count bs) (p + 3) (drop 3 bs) in
       let t = told head entries (group_length bs) n (sym is ∙ ok) in
       let same : group_length bs ≡ n = t.1 in
       let q : p + group_length bs ≡ place + (passed + n) = omega arith in
       let rest : drop (group_length bs) bs ≡ bs' = ap (λ k. drop k bs) same ∙ sym ebs in
-      let first : groups_step closed newer (groups_seen known version s) p bs ≡ bind (groups_verdict closed newer vs (p + group_length bs) (drop (group_length bs) bs)) (λ _. Ok (group_length bs + groups_length vs (drop (group_length bs) bs))) =
-      one_first s s' tag size p bs e
-      ∙ ap (λ v. bind (v then groups_verdict closed newer vs (p + group_length bs) (drop (group_length bs) bs)) (λ _. Ok (group_length bs + groups_length vs (drop (group_length bs) bs)))) (apart tag size s' p bs ∙ t.0) in
+      let first : groups_step closed newer (views gs) p bs ≡ bind (groups_verdict closed newer vs (p + group_length bs) (drop (group_length bs) bs)) (λ _. Ok (group_length bs + groups_length vs (drop (group_length bs) bs))) =
+      one_first gs gs' s tag size p bs e
+      ∙ ap (λ v. bind (v then groups_verdict closed newer vs (p + group_length bs) (drop (group_length bs) bs)) (λ _. Ok (group_length bs + groups_length vs (drop (group_length bs) bs)))) (apart tag size s p bs ∙ t.0) in
       let stepped = summed (groups_verdict closed newer vs (p + group_length bs) (drop (group_length bs) bs)) (group_length bs) (groups_length vs (drop (group_length bs) bs)) passed all (subst (λ x. Left passed x all) first whole) in
       left_same (passed + group_length bs) (passed + n) _ _ all (ap (λ k. passed + k) same)
       (ap₂ (λ x y. groups_step closed newer vs x y) q rest) stepped
 
-  pub groups_refused : (s s' : List ℕ) (tag size place passed : ℕ) (bs : List ℕ) (r all : Result ℕ Refusal) (g : Refusal) → groups_of (there (lines s)) ≡ record { tag = tag; block = record { size = size; fields = fields_of (there (lines s')) } } ∷ groups_of (there (lines s')) → r ≡ group_step known version closed newer tag size s' (place + passed) bs → r ≡ Err g → Left passed (groups_step closed newer (groups_seen known version s) (place + passed) bs) all → Err g ≡ all
-  groups_refused s s' tag size place passed bs r all g e is bad whole =
+  pub groups_refused : (gs gs' : List Group) (s : List ℕ) (tag size place passed : ℕ) (bs : List ℕ) (r all : Result ℕ Refusal) (g : Refusal) → gs ≡ record { tag = tag; block = record { size = size; fields = fields_of (there (lines s)) } } ∷ gs' → r ≡ group_step known version closed newer tag size s (place + passed) bs → r ≡ Err g → Left passed (groups_step closed newer (views gs) (place + passed) bs) all → Err g ≡ all
+  groups_refused gs gs' s tag size place passed bs r all g e is bad whole =
       let p = place + passed in
-      let vs = groups_seen known version s' in
-      let head = head_verdict newer tag (length_at version size (fields_of (there (lines s')))) p bs in
-      let entries = entries_verdict closed (block_at known version size s') (entry_length bs) tag (entry_count bs) (p + 3) (drop 3 bs) in
+      let vs = views gs' in
+      let head = head_verdict newer tag (length_at version size (fields_of (there (lines s)))) p bs in
+      let entries = entries_verdict closed (block_at known version size s) (entry_length bs) tag (entry_count bs) (p + 3) (drop 3 bs) in
       let no' = told_refused head entries (group_length bs) g (sym is ∙ bad) in
-      let first : groups_step closed newer (groups_seen known version s) p bs ≡ Err g =
-      one_first s s' tag size p bs e
-      ∙ ap (λ v. bind (v then groups_verdict closed newer vs (p + group_length bs) (drop (group_length bs) bs)) (λ _. Ok (group_length bs + groups_length vs (drop (group_length bs) bs)))) (apart tag size s' p bs ∙ no') in
+      let first : groups_step closed newer (views gs) p bs ≡ Err g =
+      one_first gs gs' s tag size p bs e
+      ∙ ap (λ v. bind (v then groups_verdict closed newer vs (p + group_length bs) (drop (group_length bs) bs)) (λ _. Ok (group_length bs + groups_length vs (drop (group_length bs) bs)))) (apart tag size s p bs ∙ no') in
       sym (subst (λ x. Left passed x all) first whole)
 
-  pub groups_end : (s : List ℕ) (place passed : ℕ) (bs : List ℕ) (all : Result ℕ Refusal) → groups_of (there (lines s)) ≡ [] → Left passed (groups_step closed newer (groups_seen known version s) (place + passed) bs) all → Ok passed ≡ all
-  groups_end s place passed bs all e whole =
-      let none : groups_step closed newer (groups_seen known version s) (place + passed) bs ≡ Ok 0 = ap (λ gs. groups_step closed newer (map (group_view known) (map (seen_group version) gs)) (place + passed) bs) e in
+  pub groups_end : (gs : List Group) (place passed : ℕ) (bs : List ℕ) (all : Result ℕ Refusal) → gs ≡ [] → Left passed (groups_step closed newer (views gs) (place + passed) bs) all → Ok passed ≡ all
+  groups_end gs place passed bs all e whole =
+      let none : groups_step closed newer (views gs) (place + passed) bs ≡ Ok 0 = ap (λ hs. groups_step closed newer (views hs) (place + passed) bs) e in
       sym (subst (λ x. Left passed x all) none whole ∙ ap (λ m. Ok m) (omega arith))
 
 -- before anything is passed

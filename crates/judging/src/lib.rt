@@ -5,6 +5,7 @@ mod block;
 mod group;
 mod judging;
 mod part;
+mod rules;
 
 pub use block::width_of;
 pub use group::{entry_count, entry_length};

@@ -1,5 +1,5 @@
 use Rattle.std.proofs.Common.{length, ap, ◌∙◌, arith, length-take}
-use Rattle.judging.proofs.block.check_one.Goals as goal
+use Rattle.judging.proofs.rules.Rules.check_one.Goals as goal
 
 pub check_padding-requires : goal.check_padding-requires
 check_padding-requires g c =

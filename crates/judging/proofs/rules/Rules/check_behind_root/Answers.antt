@@ -1,5 +1,5 @@
 use Rattle.std.proofs.Common.{length, ap, ◌∙◌, arith, length-drop}
-use Rattle.judging.proofs.judging.check_behind_root.Goals as goal
+use Rattle.judging.proofs.rules.Rules.check_behind_root.Goals as goal
 
 pub check_parts-requires : goal.check_parts-requires
 check_parts-requires g c =
