@@ -2,28 +2,27 @@
 use Rattle.std.proofs.Common.{◌≡◌, ℕ, zero, suc, ◌+◌, ◌-◌, ◌*◌, ◌<◌, ◌≤◌, true, false, cond, List, [], ◌∷◌, ◌++◌, map, length, drop, Some, None, sym, refl, ap, ◌∙◌, ap₂, append_assoc, mul-le-mul, arith}
 use Rattle.std.proofs.lemmas.Bool.Decides.{nat_tests}
 use Rattle.types.specs.Kinds.{Known}
-use Rattle.schema.specs.Structure.{Field}
-use Rattle.schema.specs.Lines.{first_line, lines, there}
+use Rattle.schema.specs.Structure.{Field, Group, Data}
+use Rattle.schema.specs.Lines.{lines, there}
 use Rattle.schema.specs.Sections.{Section}
 use Rattle.schema.specs.Reading.{fields_of, groups_of, parts_of, template_of}
 use Rattle.schema.specs.Seen.{seen_fields, seen_group, seen_parts, seen_template}
 use Rattle.schema.proofs.LinePieces.{lines_none}
-use Rattle.dictionary.specs.Seen.{seen_first}
 use Rattle.message.specs.Frames.{entry_length, entry_count, group_length, content_length}
 use Rattle.message.specs.Lookup.{groups_end}
 use Rattle.message.specs.Messages.{stated_root}
 use Rattle.message.specs.Walks.{Item, items_by, block_items, entries_items, groups_items, parts_items}
 use Rattle.frame.specs.declared.walking.Step.{Step}
 use Rattle.judging.specs.Steps.{seen_from}
-use Rattle.frame.specs.Spots.{Spot, shown_spot, spot_at, groups_from, parts_from, items_beyond, items_left, roomy, items_from, first_of, rest_of, shown_item, Stepped, field_item, group_item, part_item, past_field, next_entry, no_entries, entered, past_part}
-use Rattle.judging.proofs.Blocks.{seen_here, seen_no_more}
+use Rattle.frame.specs.Spots.{Spot, shown_spot, spot_at, items_beyond, items_left, roomy, items_from, first_of, rest_of, shown_item, Stepped, field_item, group_item, part_item, past_field, next_entry, no_entries, entered, past}
+use Rattle.lines.specs.Held.{groups_in, parts_in}
 
 -- ---- the room that a walk has
 
 pub record Near (a : Spot) : Type 0 where
-  pub groups : length a.groups ≤ 65535
-  pub parts : length a.parts ≤ 65535
-  pub place : a.place ≤ 17592186044416 - 33554432 * length a.groups - 1024 * length a.parts
+  pub groups : a.group_lines ≤ 65535
+  pub parts : a.part_lines ≤ 65535
+  pub place : a.place ≤ 17592186044416 - 33554432 * a.group_lines - 1024 * a.part_lines
   pub base : a.base ≤ 17592186044416
   pub stride : a.stride ≤ 65535
   pub entries : a.entries ≤ 255
@@ -72,11 +71,11 @@ module _ (known : Known) (bs : List ℕ) where
   pub as_from : (a b : Spot) (r : Step) → items_from known bs a ≡ items_from known bs b → Stepped known bs b r → Stepped known bs a r
   as_from a b r same s = record { item = s.item ∙ ap first_of (sym same); rest = s.rest ∙ ap rest_of (sym same) }
 
-  pub field_on : (a : Spot) (f : Field) → roomy a ≡ true → Some f ≡ seen_first a.version (first_line a.left) → items_from known bs a ≡ field_item known bs a.base f ∷ items_from known bs (past_field f a)
-  field_on a f e here =
+  pub field_on : (a : Spot) (f : Field) (fs : List Field) → roomy a ≡ true → a.left ≡ f ∷ fs → items_from known bs a ≡ field_item known bs a.base f ∷ items_from known bs (past_field fs a)
+  field_on a f fs e here =
       from_room a e
-      ∙ ap (λ fs. block_items known bs a.base fs ++ (entries_items known bs (seen_from a.version a.fields) a.stride a.entries a.next ++ items_beyond known bs a.version a.place a.groups a.parts)) (seen_here a.version a.left f here).0
-      ∙ ap (λ is. field_item known bs a.base f ∷ is) (sym (from_room (past_field f a) e))
+      ∙ ap (λ gs. block_items known bs a.base gs ++ (entries_items known bs a.fields a.stride a.entries a.next ++ items_beyond known bs a.version a.place a.groups a.parts)) here
+      ∙ ap (λ is. field_item known bs a.base f ∷ is) (sym (from_room (past_field fs a) e))
 
   pub room_next : (a : Spot) → roomy a ≡ true → 0 < a.entries → roomy (next_entry a) ≡ true
   room_next a e more =
@@ -89,13 +88,13 @@ module _ (known : Known) (bs : List ℕ) where
       let n5 = n.next in
       room (next_entry a) (record { groups = n.groups; parts = n.parts; place = n.place; base = omega arith; stride = n.stride; entries = omega arith; next = omega arith })
 
-  pub entry_on : (a : Spot) → roomy a ≡ true → None ≡ seen_first a.version (first_line a.left) → 0 < a.entries → items_from known bs a ≡ items_from known bs (next_entry a)
+  pub entry_on : (a : Spot) → roomy a ≡ true → a.left ≡ [] → 0 < a.entries → items_from known bs a ≡ items_from known bs (next_entry a)
   entry_on a e none more =
       let beyond = items_beyond known bs a.version a.place a.groups a.parts in
-      let fs = seen_from a.version a.fields in
+      let fs = a.fields in
       let later = entries_items known bs fs a.stride (a.entries - 1) (a.next + a.stride) in
       from_room a e
-      ∙ ap₂ (λ gs is. block_items known bs a.base gs ++ (is ++ beyond)) (seen_no_more a.version a.left none) (entries_step known bs fs a.stride a.entries a.next more)
+      ∙ ap₂ (λ gs is. block_items known bs a.base gs ++ (is ++ beyond)) none (entries_step known bs fs a.stride a.entries a.next more)
       ∙ append_assoc (block_items known bs a.next fs) later beyond
       ∙ sym (from_room (next_entry a) (room_next a e more))
 
@@ -105,67 +104,66 @@ module _ (known : Known) (bs : List ℕ) where
       let n5 = n.next in
       room (no_entries a) (record { groups = n.groups; parts = n.parts; place = n.place; base = n.base; stride = n.stride; entries = omega arith; next = omega arith })
 
-  pub entries_on : (a : Spot) → roomy a ≡ true → None ≡ seen_first a.version (first_line a.fields) → items_from known bs a ≡ items_from known bs (no_entries a)
+  pub entries_on : (a : Spot) → roomy a ≡ true → a.fields ≡ [] → items_from known bs a ≡ items_from known bs (no_entries a)
   entries_on a e none =
       let beyond = items_beyond known bs a.version a.place a.groups a.parts in
-      let block = block_items known bs a.base (seen_from a.version a.left) in
+      let block = block_items known bs a.base a.left in
       from_room a e
-      ∙ ap (λ fs. block ++ (entries_items known bs fs a.stride a.entries a.next ++ beyond)) (seen_no_more a.version a.fields none)
+      ∙ ap (λ fs. block ++ (entries_items known bs fs a.stride a.entries a.next ++ beyond)) none
       ∙ ap (λ is. block ++ (is ++ beyond)) (entries_empty known bs a.stride a.entries a.next)
       ∙ sym (from_room (no_entries a) (room_none a e))
 
   -- behind the last entry
-  beyond_left : (a : Spot) → roomy a ≡ true → None ≡ seen_first a.version (first_line a.left) → a.entries ≡ 0 → items_from known bs a ≡ items_beyond known bs a.version a.place a.groups a.parts
+  beyond_left : (a : Spot) → roomy a ≡ true → a.left ≡ [] → a.entries ≡ 0 → items_from known bs a ≡ items_beyond known bs a.version a.place a.groups a.parts
   beyond_left a e none zero' =
       let beyond = items_beyond known bs a.version a.place a.groups a.parts in
       from_room a e
-      ∙ ap₂ (λ fs n. block_items known bs a.base fs ++ (entries_items known bs (seen_from a.version a.fields) a.stride n a.next ++ beyond)) (seen_no_more a.version a.left none) zero'
+      ∙ ap₂ (λ fs n. block_items known bs a.base fs ++ (entries_items known bs a.fields a.stride n a.next ++ beyond)) none zero'
 
-  room_entered : (a : Spot) (behind : List ℕ) → roomy a ≡ true → length behind < length a.groups → entry_length (drop a.place bs) ≤ 65535 → entry_count (drop a.place bs) ≤ 255 → roomy (entered bs behind a) ≡ true
-  room_entered a behind e less narrow few =
+  room_entered : (a : Spot) (fs : List Field) (gs : List Group) (lines : ℕ) → roomy a ≡ true → lines < a.group_lines → entry_length (drop a.place bs) ≤ 65535 → entry_count (drop a.place bs) ≤ 255 → roomy (entered bs fs gs lines a) ≡ true
+  room_entered a fs gs lines e less narrow few =
       let n = near a e in
       let n0 = n.groups in
       let n1 = n.parts in
       let n2 = n.place in
       let most : entry_count (drop a.place bs) * entry_length (drop a.place bs) ≤ 16711425 = mul-le-mul few narrow in
-      room (entered bs behind a) (record { groups = omega arith; parts = n.parts; place = omega arith; base = n.base; stride = narrow; entries = few; next = omega arith })
+      room (entered bs fs gs lines a) (record { groups = omega arith; parts = n.parts; place = omega arith; base = n.base; stride = narrow; entries = few; next = omega arith })
 
-  pub group_on : (a : Spot) (tag size : ℕ) (behind : List ℕ) → roomy a ≡ true → None ≡ seen_first a.version (first_line a.left) → a.entries ≡ 0 → record { tag = tag; block = record { size = size; fields = fields_of (there (lines behind)) } } ∷ groups_of (there (lines behind)) ≡ groups_of (there (lines a.groups)) → length behind < length a.groups → entry_length (drop a.place bs) ≤ 65535 → entry_count (drop a.place bs) ≤ 255 → items_from known bs a ≡ group_item bs a.place tag ∷ items_from known bs (entered bs behind a)
-  group_on a tag size behind e none zero' here less narrow few =
+  pub group_on : (a : Spot) (g : Group) (gs : List Group) (lines : ℕ) → roomy a ≡ true → a.left ≡ [] → a.entries ≡ 0 → a.groups ≡ g ∷ gs → lines < a.group_lines → entry_length (drop a.place bs) ≤ 65535 → entry_count (drop a.place bs) ≤ 255 → items_from known bs a ≡ group_item bs a.place g.tag ∷ items_from known bs (entered bs (seen_fields a.version g.block.fields) gs lines a)
+  group_on a g gs lines e none zero' here less narrow few =
       let p = a.place in
       let u = a.version in
       let q = p + group_length (drop p bs) in
-      let entries = entries_items known bs (seen_from u behind) (entry_length (drop p bs)) (entry_count (drop p bs)) (p + 3) in
-      let groups = groups_items known bs q (groups_from u behind) in
-      let parts = parts_items bs (groups_end bs q (groups_from u behind)) (parts_from u a.parts) in
-      let inside : items_left known bs (entered bs behind a) ≡ entries ++ (groups ++ parts) =
-      ap (λ fs. block_items known bs a.base fs ++ (entries ++ (groups ++ parts))) (seen_no_more u a.left none) in
+      let fs = seen_fields u g.block.fields in
+      let entries = entries_items known bs fs (entry_length (drop p bs)) (entry_count (drop p bs)) (p + 3) in
+      let groups = groups_items known bs q (map (seen_group u) gs) in
+      let parts = parts_items bs (groups_end bs q (map (seen_group u) gs)) a.parts in
+      let inside : items_left known bs (entered bs fs gs lines a) ≡ entries ++ (groups ++ parts) =
+      ap (λ hs. block_items known bs a.base hs ++ (entries ++ (groups ++ parts))) none in
       beyond_left a e none zero'
-      ∙ ap (λ gs. groups_items known bs p (map (seen_group u) gs) ++ parts_items bs (groups_end bs p (map (seen_group u) gs)) (parts_from u a.parts)) (sym here)
-      ∙ ap (λ is. group_item bs p tag ∷ is) (append_assoc entries groups parts ∙ sym inside ∙ sym (from_room (entered bs behind a) (room_entered a behind e less narrow few)))
+      ∙ ap (λ hs. items_beyond known bs u p hs a.parts) here
+      ∙ ap (λ is. group_item bs p g.tag ∷ is) (append_assoc entries groups parts ∙ sym inside ∙ sym (from_room (entered bs fs gs lines a) (room_entered a fs gs lines e less narrow few)))
 
   -- behind the last group
-  parts_left : (a : Spot) → roomy a ≡ true → None ≡ seen_first a.version (first_line a.left) → a.entries ≡ 0 → [] ≡ groups_of (there (lines a.groups)) → items_from known bs a ≡ parts_items bs a.place (parts_from a.version a.parts)
-  parts_left a e none zero' last =
-      beyond_left a e none zero'
-      ∙ ap (λ gs. groups_items known bs a.place (map (seen_group a.version) gs) ++ parts_items bs (groups_end bs a.place (map (seen_group a.version) gs)) (parts_from a.version a.parts)) (sym last)
+  parts_left : (a : Spot) → roomy a ≡ true → a.left ≡ [] → a.entries ≡ 0 → a.groups ≡ [] → items_from known bs a ≡ parts_items bs a.place a.parts
+  parts_left a e none zero' last = beyond_left a e none zero' ∙ ap (λ gs. items_beyond known bs a.version a.place gs a.parts) last
 
-  room_part : (a : Spot) (behind : List ℕ) → roomy a ≡ true → length behind < length a.parts → content_length 1 (drop a.place bs) ≤ 255 → roomy (past_part bs behind a) ≡ true
-  room_part a behind e less short =
+  room_part : (a : Spot) (ds : List Data) (lines : ℕ) → roomy a ≡ true → lines < a.part_lines → content_length 1 (drop a.place bs) ≤ 255 → roomy (past bs ds lines a) ≡ true
+  room_part a ds lines e less short =
       let n = near a e in
       let n0 = n.groups in
       let n1 = n.parts in
       let n2 = n.place in
-      room (past_part bs behind a) (record { groups = n.groups; parts = omega arith; place = omega arith; base = n.base; stride = n.stride; entries = n.entries; next = n.next })
+      room (past bs ds lines a) (record { groups = n.groups; parts = omega arith; place = omega arith; base = n.base; stride = n.stride; entries = n.entries; next = n.next })
 
-  pub part_on : (a : Spot) (tag since longest : ℕ) (behind : List ℕ) → roomy a ≡ true → None ≡ seen_first a.version (first_line a.left) → a.entries ≡ 0 → [] ≡ groups_of (there (lines a.groups)) → record { tag = tag; since = since; longest = longest; prefix = 1 } ∷ parts_from a.version behind ≡ parts_from a.version a.parts → length behind < length a.parts → content_length 1 (drop a.place bs) ≤ 255 → items_from known bs a ≡ part_item bs a.place tag ∷ items_from known bs (past_part bs behind a)
-  part_on a tag since longest behind e none zero' last here less short =
+  pub part_on : (a : Spot) (d : Data) (ds : List Data) (lines : ℕ) → d.prefix ≡ 1 → roomy a ≡ true → a.left ≡ [] → a.entries ≡ 0 → a.groups ≡ [] → a.parts ≡ d ∷ ds → lines < a.part_lines → content_length 1 (drop a.place bs) ≤ 255 → items_from known bs a ≡ part_item bs a.place d.tag ∷ items_from known bs (past bs ds lines a)
+  part_on a d ds lines one e none zero' last here less short =
       parts_left a e none zero' last
-      ∙ ap (parts_items bs a.place) (sym here)
-      ∙ ap (λ is. part_item bs a.place tag ∷ is) (sym (parts_left (past_part bs behind a) (room_part a behind e less short) none zero' last))
+      ∙ ap (parts_items bs a.place) (here ∙ ap (λ k. record { tag = d.tag; since = d.since; longest = d.longest; prefix = k } ∷ ds) one)
+      ∙ ap (λ is. part_item bs a.place d.tag ∷ is) (sym (parts_left (past bs ds lines a) (room_part a ds lines e less short) none zero' last))
 
-  pub end_on : (a : Spot) → roomy a ≡ true → None ≡ seen_first a.version (first_line a.left) → a.entries ≡ 0 → [] ≡ groups_of (there (lines a.groups)) → [] ≡ parts_from a.version a.parts → items_from known bs a ≡ []
-  end_on a e none zero' last here = parts_left a e none zero' last ∙ ap (parts_items bs a.place) (sym here)
+  pub end_on : (a : Spot) → roomy a ≡ true → a.left ≡ [] → a.entries ≡ 0 → a.groups ≡ [] → a.parts ≡ [] → items_from known bs a ≡ []
+  end_on a e none zero' last here = parts_left a e none zero' last ∙ ap (parts_items bs a.place) here
 
   -- nothing is left where there is no room
   pub no_room : (a : Spot) → roomy a ≡ false → items_from known bs a ≡ []
@@ -179,7 +177,7 @@ module _ (known : Known) (bs : List ℕ) where
   pub starts : (u p : ℕ) (t : Section) → length t.body ≤ 65535 → p ≤ 65547 → p ≡ 12 + stated_root bs → items_from known bs (spot_at u t.body p) ≡ items_by known bs (seen_template u (template_of t))
   starts u p t short near' is =
       from_room (spot_at u t.body p) (room_start u p t.body short near')
-      ∙ ap (λ q. block_items known bs 12 (seen_from u t.body) ++ items_beyond known bs u q t.body t.body) is
+      ∙ ap (λ q. block_items known bs 12 (seen_from u t.body) ++ items_beyond known bs u q (groups_in t.body) (seen_parts u (parts_in t.body))) is
 
   -- without lines
   pub starts_empty : (u p : ℕ) (body : List ℕ) → body ≡ [] → p ≤ 65547 → items_from known bs (spot_at u body p) ≡ []
@@ -187,4 +185,4 @@ module _ (known : Known) (bs : List ℕ) where
       let none' : lines body ≡ [] = ap lines none ∙ lines_none in
       let long : length body ≡ 0 = ap length none in
       from_room (spot_at u body p) (room_start u p body (omega arith) near')
-      ∙ ap (λ ls. block_items known bs 12 (seen_fields u (fields_of (there ls))) ++ (groups_items known bs p (map (seen_group u) (groups_of (there ls))) ++ parts_items bs (groups_end bs p (map (seen_group u) (groups_of (there ls)))) (seen_parts u (parts_of (there ls))))) none'
+      ∙ ap (λ ls. block_items known bs 12 (seen_fields u (fields_of (there ls))) ++ items_beyond known bs u p (groups_of (there ls)) (seen_parts u (parts_of (there ls)))) none'

@@ -1,33 +1,19 @@
--- The template that a walk goes by: where it stands in the dictionary, and how long it is.
-use Rattle.std.proofs.Common.{◌≡◌, ℕ, zero, suc, ◌+◌, ◌-◌, ◌<◌, ◌≤◌, Bool, true, false, cond, ◌&&◌, eqb, leb, List, [], ◌∷◌, length, take, drop, Some, None, Option, sym, refl, ap, ◌∙◌, subst, ⊎_elim, lt_of_lt_of_le, arith, lit<, length-drop, length-take}
+-- The template of a frame: where it stands in the dictionary, how long it is, and what follows its geometry.
+use Rattle.std.proofs.Common.{◌≡◌, ℕ, zero, suc, ◌+◌, ◌-◌, ◌<◌, ◌≤◌, Bool, true, false, cond, ◌&&◌, eqb, leb, List, length, take, drop, Some, None, Option, sym, refl, ap, ◌∙◌, subst, ⊎_elim, lt_of_lt_of_le, arith, lit<, length-drop, length-take, Ok, Err, Result}
 use native.Mathlib.Nat.{pow-le-pow_right}
 use Rattle.std.proofs.ByRecursion.{All-take, All-drop}
 use Rattle.std.proofs.lemmas.Bool.Decides.{leb_tells}
 use Rattle.wire.specs.Bytes.{Bytes}
+use Rattle.wire.specs.declared.refusal.Refusal.{Refusal}
+use Rattle.wire.specs.Refusals.{bind}
+use Rattle.schema.specs.Verdicts.{Verdict}
 use Rattle.wire.specs.Numbers.{be_value}
 use Rattle.wire.proofs.Values.{be_value_below}
 use Rattle.schema.specs.Lines.{number_2, there}
 use Rattle.schema.specs.Sections.{Section, section_size, first_section, sections}
 use Rattle.schema.specs.Finding.{PlacedSection, section_at}
 use Rattle.schema.proofs.SectionPieces.{first_told}
-use Rattle.schema.specs.Finding.{PlacedSection as Placed, section_at as placed_at_lem}
 use Rattle.dictionary.proofs.Walking.{section_here, no_section_here, no_section_left}
-
--- ---- the two ways to write down what was found
-
-abbrev pub placed : Option PlacedSection → Option Placed
-placed None = None
-placed (Some t) = Some (record { place = t.place; section = t.section })
-
-by_test : (b : Bool) (x : PlacedSection) (o : Option PlacedSection) (q : Option Placed) → q ≡ placed o → cond b (Some (record { place = x.place; section = x.section })) q ≡ placed (cond b (Some x) o)
-by_test true x o q e = refl
-by_test false x o q e = e
-
-pub placed_same : (number u p : ℕ) (ts : List Section) → placed_at_lem number u p ts ≡ placed (section_at number u p ts)
-placed_same number u p [] = refl
-placed_same number u p (t ∷ ts) = by_test (leb t.since u && eqb t.number number) (record { place = p; section = t }) (section_at number u (p + section_size t) ts) (placed_at_lem number u (p + section_size t) ts) (placed_same number u (p + section_size t) ts)
-
--- ---- where it stands
 
 -- a template lies within the dictionary's bytes, and its lines have at most 65,535 bytes
 abbrev pub Within : List ℕ → PlacedSection → Type 0
@@ -82,3 +68,8 @@ module _ (number u : ℕ) (s : List ℕ) (bytes : Bytes s) where
 
   pub within : (x : PlacedSection) → Some x ≡ section_at number u 7 (there (sections (drop 7 s))) → Within s x
   within x e = found_within (length s) 7 x (omega arith) (sym e)
+
+-- what comes of a template once its geometry passes
+pub after_geometry : {X : Type 0} (v : Verdict) (t : Section) (f : Option Section → Result X Refusal) → bind v (λ _. f (Some t)) ≡ bind (bind v (λ _. Ok (Some t))) f
+after_geometry (Ok x) t f = refl
+after_geometry (Err e) t f = refl

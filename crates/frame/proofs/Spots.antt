@@ -1,32 +1,55 @@
 -- The steps that lead to a spot, as the definition of one has them.
-use Rattle.std.proofs.Common.{◌≡◌, ℕ, ◌+◌, ◌*◌, ◌^◌, ◌<◌, ◌≤◌, cond, eqb, ◌⊎◌, List, [], ◌∷◌, drop, Some, Option, Result, sym, refl, ap, ◌∙◌, ap₂, inl, inr, arith}
-use Rattle.std.specs.Option.{option_map}
+use Rattle.std.proofs.Common.{◌≡◌, ℕ, ◌+◌, ◌*◌, ◌^◌, ◌<◌, ◌≤◌, Bool, true, false, cond, eqb, ◌⊎◌, List, [], ◌∷◌, drop, Some, Option, Result, sym, refl, ap, ◌∙◌, inl, inr, arith, None, Err}
+use Rattle.std.specs.Option.{option_map, ok_or}
+use Rattle.std.specs.List.{find}
 use Rattle.std.proofs.lemmas.Bool.{cond-false, ne_eqb, cases_lt}
 use Rattle.wire.specs.declared.refusal.Refusal.{Refusal}
 use Rattle.types.specs.Kinds.{Known}
 use Rattle.schema.specs.Structure.{Field, Group, Data}
 use Rattle.schema.specs.Finding.{PlacedSection, section_at}
-use Rattle.schema.specs.Reading.{version_of, sections_of}
+use Rattle.schema.specs.Sections.{Section}
+use Rattle.schema.specs.Geometry.{section_geometry}
+use Rattle.schema.specs.Reading.{template_of, version_of, sections_of}
+use Rattle.wire.specs.Refusals.{bind}
+use Rattle.frame.specs.Templates.{passed, template_in}
+use Rattle.frame.proofs.Placed.{after_geometry}
 use Rattle.message.specs.Frames.{group_length}
 use Rattle.message.specs.Messages.{stated_template, stated_version}
 use Rattle.message.specs.Lookup.{groups_end}
-use Rattle.message.specs.Spots.{Spot, field_spot, part_spot, entry_spot, group_spot, section_spot, frame_spot}
-use Rattle.frame.specs.Readings.{field_with}
-use Rattle.frame.specs.Spotting.{spot_of_field, spot_of_part, part_end}
-use Rattle.frame.proofs.Readings.{if_mapped}
+use Rattle.message.specs.Spots.{Spot, no_spot, field_spot, part_spot, entry_spot, group_spot, template_spot, section_spot, frame_spot}
+use Rattle.frame.specs.Holding.{spot_of_field, spot_of_part, part_end}
+
+if_mapped : {X Y : Type 0} (h : X → Y) (b : Bool) (x : X) (o : Option X) → option_map h (cond b (Some x) o) ≡ cond b (Some (h x)) (option_map h o)
+if_mapped h true x o = refl
+if_mapped h false x o = refl
 
 -- the first field with the tag, and where it lies
-pub field_spotted : (u : ℕ) (bs : List ℕ) (base : ℕ) (fs : List Field) (tag : ℕ) → option_map (spot_of_field u base) (field_with tag fs) ≡ field_spot u bs base fs tag
+pub field_spotted : (u : ℕ) (bs : List ℕ) (base : ℕ) (fs : List Field) (tag : ℕ) → option_map (spot_of_field u base) (find (λ f. eqb f.tag tag) fs) ≡ field_spot u bs base fs tag
 field_spotted u bs base [] tag = refl
 field_spotted u bs base (f ∷ fs) tag =
-    if_mapped (spot_of_field u base) (eqb f.tag tag) f (field_with tag fs)
+    if_mapped (spot_of_field u base) (eqb f.tag tag) f (find (λ g. eqb g.tag tag) fs)
     ∙ ap (λ (o : Option Spot). cond (eqb f.tag tag) (Some (spot_of_field u base f)) o) (field_spotted u bs base fs tag)
 
--- the template that is found has it where the frame has it
-pub found_spotted : (known : Known) (s bs : List ℕ) (n u : ℕ) (o : Option PlacedSection) (group entry tag : ℕ) → n ≡ stated_template bs → u ≡ stated_version bs → o ≡ section_at n u 7 (sections_of s) → section_spot known (version_of s) u bs o group entry tag ≡ frame_spot known s bs group entry tag
-found_spotted known s bs n u o group entry tag en eu is =
-    ap (λ x. section_spot known (version_of s) u bs x group entry tag) is
-    ∙ ap₂ (λ n u. section_spot known (version_of s) u bs (section_at n u 7 (sections_of s)) group entry tag) en eu
+err_same : {X E : Type 0} {e x : E} → ◌≡◌ {A = Result X E} (Err e) (Err x) → e ≡ x
+err_same is = cc
+
+-- what is refused where nothing is there
+pub none_there : {X E : Type 0} (o : Option X) (e x : E) → ok_or o e ≡ Err x → (o ≡ None) × (e ≡ x)
+none_there None e x is = (refl, err_same is)
+none_there (Some y) e x is = absurd cc
+
+-- by the template, if there is one
+abbrev pub spot_by : ℕ → List ℕ → ℕ → ℕ → ℕ → Option Section → Result Spot Refusal
+spot_by u bs group entry tag None = no_spot group
+spot_by u bs group entry tag (Some t) = template_spot u bs (template_of t) group entry tag
+
+section_spotted : (known : Known) (last u : ℕ) (bs : List ℕ) (o : Option PlacedSection) (group entry tag : ℕ) → section_spot known last u bs o group entry tag ≡ bind (passed known last o) (spot_by u bs group entry tag)
+section_spotted known last u bs None group entry tag = refl
+section_spotted known last u bs (Some t) group entry tag = after_geometry (section_geometry known last t.place t.section) t.section (spot_by u bs group entry tag)
+
+-- the template of a frame has it where the frame has it
+pub frame_spotted : (known : Known) (s bs : List ℕ) (group entry tag : ℕ) → frame_spot known s bs group entry tag ≡ bind (template_in known s bs) (spot_by (stated_version bs) bs group entry tag)
+frame_spotted known s bs group entry tag = section_spotted known (version_of s) (stated_version bs) bs (section_at (stated_template bs) (stated_version bs) 7 (sections_of s)) group entry tag
 
 -- ---- from group to group
 
@@ -42,6 +65,14 @@ groups_end_on bs p n rest all gs g r long is here whole =
     ap (λ m. groups_end bs (p + m) gs) (long ∙ ap group_length is)
     ∙ ap (groups_end bs p) (sym here)
     ∙ whole
+
+-- a place stays near the end of the bytes: behind it a group takes 3, while its line takes 8
+pub group_near : (p n long left next whole : ℕ) → n ≤ 16711428 → (long ≤ p → n ≡ 3) → next + 8 ≤ left → left ≤ whole → 8 * p + 3 * left ≤ 8 * (long + 16777216) + 3 * whole → 8 * (p + n) + 3 * next ≤ 8 * (long + 16777216) + 3 * whole
+group_near p n long left next whole most none takes within near = by (cases_lt p long)
+  where
+    by : (p < long) ⊎ (long ≤ p) → 8 * (p + n) + 3 * next ≤ 8 * (long + 16777216) + 3 * whole
+    by (inl h) = omega arith
+    by (inr h) = let three = none h in omega arith
 
 -- ---- from data to data
 

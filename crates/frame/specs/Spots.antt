@@ -1,9 +1,7 @@
 -- Where a walk over a frame stands, and the items that it has still to hand out. Assumes nothing.
-use Rattle.std.specs.Prelude.{◌≡◌, ℕ, ◌+◌, ◌-◌, ◌*◌, ◌<◌, Bool, false, cond, ◌||◌, List, [], ◌∷◌, ◌++◌, map, length, take, drop, Some, None, Option, nat_le, nat_lt}
+use Rattle.std.specs.Prelude.{◌≡◌, ℕ, ◌+◌, ◌-◌, ◌*◌, Bool, false, cond, ◌||◌, List, [], ◌∷◌, ◌++◌, map, length, take, drop, Some, None, Option, nat_le, nat_lt}
 use Rattle.types.specs.Kinds.{Known}
 use Rattle.schema.specs.Structure.{Field, Group, Data}
-use Rattle.schema.specs.Lines.{lines, there}
-use Rattle.schema.specs.Reading.{fields_of, groups_of, parts_of}
 use Rattle.schema.specs.Seen.{seen_group, seen_parts}
 use Rattle.schema.specs.Geometry.{kind_of, width_or_0}
 use Rattle.message.specs.Frames.{entry_length, entry_count, group_length, content_of, part_length}
@@ -12,58 +10,56 @@ use Rattle.message.specs.Walks.{Item, field, group, part, block_items, entries_i
 use Rattle.frame.specs.declared.walking.Item.{Item as CodeItem}
 use Rattle.frame.specs.declared.walking.Item.TheVariants as code
 use Rattle.frame.specs.declared.walking.At.{At}
-use Rattle.frame.specs.declared.walking.GroupLine.{GroupLine}
-use Rattle.frame.specs.declared.walking.PartLine.{PartLine}
+use Rattle.lines.specs.declared.groups.GroupLine.{GroupLine}
+use Rattle.lines.specs.declared.groups.Groups.{Groups}
+use Rattle.lines.specs.declared.parts.SeenParts.{SeenParts}
+use Rattle.lines.specs.Held.{groups_in, parts_in}
+use Rattle.lines.specs.Walks.{seen_fields_left, groups_left, seen_parts_left}
 use Rattle.frame.specs.declared.walking.Step.{Step}
 use Rattle.judging.specs.Steps.{seen_from}
 
--- where a walk stands: the lines of the fields still to come in the block that begins at `base`; of the group at hand the lines of its fields, how long an entry is, how many are still to come and where the next one begins; the lines with the groups still to come, the place of the next group or data, and the lines with the data still to come
+-- where a walk stands: the fields still to come in the block that begins at `base`; of the group at hand its fields, how long an entry is, how many are still to come and where the next one begins; the groups still to come and how many bytes of lines they are in, the place of the next group or data, and the data still to come and how many bytes of lines they are in. Fields and data are those that are seen at the version
 pub record Spot : Type 0 where
   pub version : ℕ
-  pub left : List ℕ
+  pub left : List Field
   pub base : ℕ
-  pub fields : List ℕ
+  pub fields : List Field
   pub stride : ℕ
   pub entries : ℕ
   pub next : ℕ
-  pub groups : List ℕ
+  pub groups : List Group
+  pub group_lines : ℕ
   pub place : ℕ
-  pub parts : List ℕ
+  pub parts : List Data
+  pub part_lines : ℕ
 
 abbrev pub shown_spot : At → Spot
-shown_spot a = record { version = a.version; left = a.left.now; base = a.base; fields = a.fields.now; stride = a.stride; entries = a.entries; next = a.next; groups = a.groups.now; place = a.place; parts = a.parts.now }
+shown_spot a = record { version = a.version; left = seen_fields_left a.left; base = a.base; fields = seen_fields_left a.fields; stride = a.stride; entries = a.entries; next = a.next; groups = groups_left a.groups; group_lines = length a.groups.lines.rest.now; place = a.place; parts = seen_parts_left a.parts; part_lines = length a.parts.parts.lines.rest.now }
 
 -- before the first field, by a template's lines; groups and data begin at p
 abbrev pub spot_at : ℕ → List ℕ → ℕ → Spot
-spot_at u body p = record { version = u; left = body; base = 12; fields = body; stride = 0; entries = 0; next = 0; groups = body; place = p; parts = body }
-
--- the groups and the data of lines, as seen at a version
-abbrev pub groups_from : ℕ → List ℕ → List Group
-groups_from u s = map (seen_group u) (groups_of (there (lines s)))
-
-abbrev pub parts_from : ℕ → List ℕ → List Data
-parts_from u s = seen_parts u (parts_of (there (lines s)))
+spot_at u body p = record { version = u; left = seen_from u body; base = 12; fields = seen_from u body; stride = 0; entries = 0; next = 0; groups = groups_in body; group_lines = length body; place = p; parts = seen_parts u (parts_in body); part_lines = length body }
 
 -- ---- the items that are left
 
--- those of the groups and data
-abbrev pub items_beyond : Known → List ℕ → ℕ → ℕ → List ℕ → List ℕ → List Item
+-- those of the groups, as they are seen at u, and of the data
+abbrev pub items_beyond : Known → List ℕ → ℕ → ℕ → List Group → List Data → List Item
 items_beyond known bs u p gs ds =
-    groups_items known bs p (groups_from u gs)
-    ++ parts_items bs (groups_end bs p (groups_from u gs)) (parts_from u ds)
+    groups_items known bs p (map (seen_group u) gs)
+    ++ parts_items bs (groups_end bs p (map (seen_group u) gs)) ds
 
 -- those of the block at hand, of the entries to come, and of the groups and data
 abbrev pub items_left : Known → List ℕ → Spot → List Item
 items_left known bs a =
-    block_items known bs a.base (seen_from a.version a.left)
-    ++ (entries_items known bs (seen_from a.version a.fields) a.stride a.entries a.next
+    block_items known bs a.base a.left
+    ++ (entries_items known bs a.fields a.stride a.entries a.next
     ++ items_beyond known bs a.version a.place a.groups a.parts)
 
 -- whether all places still to come are near: at most 65,535 bytes of lines, and for each of them room for a group and a data
 abbrev pub roomy : Spot → Bool
 roomy a =
-    cond (nat_lt 65535 (length a.groups) || nat_lt 65535 (length a.parts)) false
-    (cond (nat_lt (17592186044416 - 33554432 * length a.groups - 1024 * length a.parts) a.place) false
+    cond (nat_lt 65535 a.group_lines || nat_lt 65535 a.part_lines) false
+    (cond (nat_lt (17592186044416 - 33554432 * a.group_lines - 1024 * a.part_lines) a.place) false
     (cond ((nat_lt 17592186044416 a.base || nat_lt 65535 a.stride) || nat_lt 255 a.entries) false
     (nat_le a.next (17592186044416 - 65536 * a.entries))))
 
@@ -92,25 +88,6 @@ pub record Stepped (known : Known) (bs : List ℕ) (a : Spot) (r : Step) : Type 
   pub item : shown_item r.item ≡ first_of (items_from known bs a)
   pub rest : items_from known bs (shown_spot r.at) ≡ rest_of (items_from known bs a)
 
--- ---- lines that were found
-
--- the groups, by the first one's line and those behind it
-abbrev pub groups_by : Option GroupLine → List Group
-groups_by None = []
-groups_by (Some g) = record { tag = g.tag; block = record { size = g.size; fields = fields_of (there (lines g.behind.now)) } } ∷ groups_of (there (lines g.behind.now))
-
-abbrev pub GroupBehind : ℕ → Option GroupLine → Type 0
-GroupBehind n None = Unit {0}
-GroupBehind n (Some g) = length g.behind.now < n
-
-abbrev pub parts_by : ℕ → Option PartLine → List Data
-parts_by u None = []
-parts_by u (Some d) = record { tag = d.tag; since = d.since; longest = d.longest; prefix = 1 } ∷ parts_from u d.behind.now
-
-abbrev pub PartBehind : ℕ → Option PartLine → Type 0
-PartBehind n None = Unit {0}
-PartBehind n (Some d) = length d.behind.now < n
-
 -- ---- one item, and the spot behind it
 
 abbrev pub field_item : Known → List ℕ → ℕ → Field → Item
@@ -122,19 +99,28 @@ group_item bs p tag = group p tag (entry_count (drop p bs)) (take 3 (drop p bs))
 abbrev pub part_item : List ℕ → ℕ → ℕ → Item
 part_item bs p tag = part (p + 1) tag (content_of 1 (drop p bs))
 
-abbrev pub past_field : Field → Spot → Spot
-past_field f a = record { version = a.version; left = drop (12 + length f.argument) a.left; base = a.base; fields = a.fields; stride = a.stride; entries = a.entries; next = a.next; groups = a.groups; place = a.place; parts = a.parts }
+-- behind a field, with the fields fs behind it
+abbrev pub past_field : List Field → Spot → Spot
+past_field fs a = record { version = a.version; left = fs; base = a.base; fields = a.fields; stride = a.stride; entries = a.entries; next = a.next; groups = a.groups; group_lines = a.group_lines; place = a.place; parts = a.parts; part_lines = a.part_lines }
 
 abbrev pub next_entry : Spot → Spot
-next_entry a = record { version = a.version; left = a.fields; base = a.next; fields = a.fields; stride = a.stride; entries = a.entries - 1; next = a.next + a.stride; groups = a.groups; place = a.place; parts = a.parts }
+next_entry a = record { version = a.version; left = a.fields; base = a.next; fields = a.fields; stride = a.stride; entries = a.entries - 1; next = a.next + a.stride; groups = a.groups; group_lines = a.group_lines; place = a.place; parts = a.parts; part_lines = a.part_lines }
 
 abbrev pub no_entries : Spot → Spot
-no_entries a = record { version = a.version; left = a.left; base = a.base; fields = a.fields; stride = a.stride; entries = 0; next = a.next; groups = a.groups; place = a.place; parts = a.parts }
+no_entries a = record { version = a.version; left = a.left; base = a.base; fields = a.fields; stride = a.stride; entries = 0; next = a.next; groups = a.groups; group_lines = a.group_lines; place = a.place; parts = a.parts; part_lines = a.part_lines }
 
--- in the group whose line the lines `behind` follow
-abbrev pub entered : List ℕ → List ℕ → Spot → Spot
-entered bs behind a = record { version = a.version; left = a.left; base = a.base; fields = behind; stride = entry_length (drop a.place bs); entries = entry_count (drop a.place bs); next = a.place + 3; groups = behind; place = a.place + group_length (drop a.place bs); parts = a.parts }
+-- in the group with the fields fs; the groups gs are behind it, in n bytes of lines
+abbrev pub entered : List ℕ → List Field → List Group → ℕ → Spot → Spot
+entered bs fs gs n a = record { version = a.version; left = a.left; base = a.base; fields = fs; stride = entry_length (drop a.place bs); entries = entry_count (drop a.place bs); next = a.place + 3; groups = gs; group_lines = n; place = a.place + group_length (drop a.place bs); parts = a.parts; part_lines = a.part_lines }
 
--- behind the data whose line the lines `behind` follow
-abbrev pub past_part : List ℕ → List ℕ → Spot → Spot
-past_part bs behind a = record { version = a.version; left = a.left; base = a.base; fields = a.fields; stride = a.stride; entries = a.entries; next = a.next; groups = a.groups; place = a.place + part_length 1 (drop a.place bs); parts = behind }
+-- the same by the group's line and the walk over those behind it
+abbrev pub entered_by : List ℕ → GroupLine → Groups → Spot → Spot
+entered_by bs g behind a = entered bs (seen_from a.version g.lines.now) (groups_left behind) (length behind.lines.rest.now) a
+
+-- behind a data; the data ds are behind it, in n bytes of lines
+abbrev pub past : List ℕ → List Data → ℕ → Spot → Spot
+past bs ds n a = record { version = a.version; left = a.left; base = a.base; fields = a.fields; stride = a.stride; entries = a.entries; next = a.next; groups = a.groups; group_lines = a.group_lines; place = a.place + part_length 1 (drop a.place bs); parts = ds; part_lines = n }
+
+-- the same by the walk over those behind it
+abbrev pub past_part : List ℕ → SeenParts → Spot → Spot
+past_part bs behind a = past bs (seen_parts_left behind) (length behind.parts.lines.rest.now) a

@@ -3,8 +3,10 @@
 
 mod accepted;
 mod accepting;
+mod held;
 mod reading;
 mod spotting;
+mod template;
 mod walking;
 
 pub use accepted::Frame;

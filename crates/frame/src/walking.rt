@@ -1,21 +1,20 @@
 // The walk over an accepted frame: its fields, groups and data, one by one in the order of the bytes.
-ghost use Rattle.std.specs.Prelude.{◌≡◌, ◌+◌, ◌*◌, ◌<◌, ◌≤◌, true, [], length, Some, None};
+ghost use Rattle.std.specs.Prelude.{◌≡◌, ◌+◌, ◌<◌, ◌≤◌, true, [], ◌∷◌, length, Some, None};
 ghost use Rattle.schema.specs.Verdicts.{fine};
-ghost use Rattle.schema.specs.Lines.{first_line, lines, there};
-ghost use Rattle.schema.specs.Reading.{groups_of};
 ghost use Rattle.schema.specs.Laws.{Checked};
 ghost use Rattle.dictionary.specs.Shown.{shown_field};
-ghost use Rattle.dictionary.specs.Seen.{seen_first};
 ghost use Rattle.message.specs.Messages.{frame_verdict};
 ghost use Rattle.message.specs.Walks.{frame_items};
 ghost use Rattle.message.specs.Laws.{WalkedThrough};
-ghost use Rattle.frame.specs.Spots.{shown_spot, spot_at, roomy, groups_by, GroupBehind, parts_from, parts_by, PartBehind, Stepped, field_item, group_item, part_item, shown_item, past_field, next_entry, no_entries, entered, past_part, first_of, rest_of};
+ghost use Rattle.lines.specs.Walks.{seen_fields_left, groups_left, GivesGroup, GivesSeenPart};
+ghost use Rattle.frame.specs.Spots.{shown_spot, spot_at, roomy, Stepped, field_item, group_item, part_item, shown_item, next_entry, no_entries, entered_by, past_part, first_of, rest_of};
 ghost use Rattle.frame.specs.Walked.{remaining, all_remaining, WalksOver};
 
 use crate::accepted::Frame;
-use dictionary::{FieldLine, Line, find, first_line, seen_field};
+use crate::held::{HEADER, group_length};
+use dictionary::FieldLine;
 use judging::{content_length, entry_count, entry_length, stated_at, width_of};
-use lines::number_at;
+use lines::{GroupLine, Groups, PartLine, SeenFields, SeenParts};
 use types::TypeLibrary;
 use wire::{Refusal, beyond, seen, upto};
 
@@ -51,6 +50,7 @@ pub enum Item<'a> {
         tag: u32,
         content: &'a [u8],
     },
+    // A rule of the project: an item is one enum with the end as a case, and no Option of one.
     End,
 }
 
@@ -58,36 +58,19 @@ pub enum Item<'a> {
 #[derive(Clone, Copy)]
 struct At<'a> {
     version: u16,
-    // the lines of the fields still to come in the block at hand, and where that block begins
-    left: &'a [u8],
+    // the fields still to come in the block at hand, and where that block begins
+    left: SeenFields<'a>,
     base: usize,
-    // of the group at hand: the lines of its fields, how long an entry is, how many are still to come, and where the next one begins
-    fields: &'a [u8],
+    // of the group at hand: its fields, how long an entry is, how many are still to come, and where the next one begins
+    fields: SeenFields<'a>,
     stride: usize,
     entries: usize,
     next: usize,
-    // the lines with the groups still to come, and where the next group or data begins
-    groups: &'a [u8],
+    // the groups still to come, and where the next group or data begins
+    groups: Groups<'a>,
     place: usize,
-    // the lines with the data still to come
-    parts: &'a [u8],
-}
-
-// A group's line, and the lines behind it.
-#[derive(Clone, Copy)]
-struct GroupLine<'a> {
-    tag: u32,
-    size: u16,
-    behind: &'a [u8],
-}
-
-// A data's line, and the lines behind it.
-#[derive(Clone, Copy)]
-struct PartLine<'a> {
-    tag: u32,
-    since: u16,
-    longest: u8,
-    behind: &'a [u8],
+    // the data still to come
+    parts: SeenParts<'a>,
 }
 
 // An item, and where the walk stands behind it.
@@ -97,56 +80,6 @@ struct Step<'a> {
     at: At<'a>,
 }
 
-// The first group of lines.
-fn first_group(body: &[u8]) -> Option<GroupLine<'_>>
-    ensures value { groups_by result ≡ groups_of (there (lines body.now)) }
-    ensures behind { GroupBehind (length body.now) result }
-{
-    let mut left = body;
-    while let Some(line) = first_line(left) {
-        let behind = beyond(left, line.size());
-        match line {
-            Line::Group { tag, size } => {
-                return Some(GroupLine { tag, size, behind });
-            }
-            _ => {}
-        }
-        left = behind;
-    }
-    None
-}
-
-// The first data of lines, where it is not newer than the version.
-fn first_part(body: &[u8], version: u16) -> Option<PartLine<'_>>
-    ensures value { parts_by version result ≡ parts_from version body.now }
-    ensures behind { PartBehind (length body.now) result }
-{
-    let mut left = body;
-    while let Some(line) = first_line(left) {
-        let behind = beyond(left, line.size());
-        match line {
-            Line::Data {
-                tag,
-                since,
-                longest,
-            } => {
-                if since <= version {
-                    return Some(PartLine {
-                        tag,
-                        since,
-                        longest,
-                        behind,
-                    });
-                }
-                return None;
-            }
-            _ => {}
-        }
-        left = behind;
-    }
-    None
-}
-
 impl<'a> At<'a> {
     // Before the first field: `body` are the template's lines, and `place` is behind the root block.
     fn start(version: u16, body: &'a [u8], place: usize) -> At<'a>
@@ -154,15 +87,15 @@ impl<'a> At<'a> {
     {
         At {
             version,
-            left: body,
-            base: 12,
-            fields: body,
+            left: SeenFields::of(version, body),
+            base: HEADER,
+            fields: SeenFields::of(version, body),
             stride: 0,
             entries: 0,
             next: 0,
-            groups: body,
+            groups: Groups::of(body),
             place,
-            parts: body,
+            parts: SeenParts::of(version, body),
         }
     }
 
@@ -170,36 +103,18 @@ impl<'a> At<'a> {
     fn has_room(self) -> bool
         ensures { result ≡ roomy (shown_spot self.entry) }
     {
-        if LONGEST_BODY < self.groups.len() || LONGEST_BODY < self.parts.len() {
+        let groups = self.groups.lines.rest.len();
+        let parts = self.parts.parts.lines.rest.len();
+        if LONGEST_BODY < groups || LONGEST_BODY < parts {
             return false;
         }
-        if FAR - ROOM_FOR_GROUP * self.groups.len() - ROOM_FOR_PART * self.parts.len()
-            < self.place
-        {
+        if FAR - ROOM_FOR_GROUP * groups - ROOM_FOR_PART * parts < self.place {
             return false;
         }
         if FAR < self.base || LONGEST_BODY < self.stride || 255 < self.entries {
             return false;
         }
         self.next <= FAR - 65536 * self.entries
-    }
-
-    // Behind a field.
-    fn past_field(self, f: FieldLine<'_>) -> At<'a>
-        ensures { shown_spot result ≡ past_field (shown_field f.entry) (shown_spot self.entry) }
-    {
-        At {
-            version: self.version,
-            left: beyond(self.left, 12 + f.argument.len()),
-            base: self.base,
-            fields: self.fields,
-            stride: self.stride,
-            entries: self.entries,
-            next: self.next,
-            groups: self.groups,
-            place: self.place,
-            parts: self.parts,
-        }
     }
 
     // In the next entry.
@@ -209,16 +124,11 @@ impl<'a> At<'a> {
         ensures { shown_spot result ≡ next_entry (shown_spot self.entry) }
     {
         At {
-            version: self.version,
             left: self.fields,
             base: self.next,
-            fields: self.fields,
-            stride: self.stride,
             entries: self.entries - 1,
             next: self.next + self.stride,
-            groups: self.groups,
-            place: self.place,
-            parts: self.parts,
+            ..self
         }
     }
 
@@ -226,17 +136,35 @@ impl<'a> At<'a> {
     fn without_entries(self) -> At<'a>
         ensures { shown_spot result ≡ no_entries (shown_spot self.entry) }
     {
+        At { entries: 0, ..self }
+    }
+
+    // In the group that begins here, with those behind it still to come.
+    fn entered(self, bytes: &[u8], group: GroupLine<'a>, behind: Groups<'a>) -> At<'a>
+        requires { self.place ≤ 17592186044416 }
+        ensures { shown_spot result ≡ entered_by bytes.now group.entry behind.entry (shown_spot self.entry) }
+    {
+        let rest = beyond(bytes, self.place);
         At {
-            version: self.version,
-            left: self.left,
-            base: self.base,
-            fields: self.fields,
-            stride: self.stride,
-            entries: 0,
-            next: self.next,
-            groups: self.groups,
-            place: self.place,
-            parts: self.parts,
+            fields: SeenFields::of(self.version, group.lines),
+            stride: entry_length(rest),
+            entries: usize::from(entry_count(rest)),
+            next: self.place + 3,
+            groups: behind,
+            place: self.place + group_length(rest),
+            ..self
+        }
+    }
+
+    // Behind the data that begins here, with those behind it still to come.
+    fn past_part(self, bytes: &[u8], behind: SeenParts<'a>) -> At<'a>
+        requires { self.place ≤ 17592186044416 }
+        ensures { shown_spot result ≡ past_part bytes.now behind.entry (shown_spot self.entry) }
+    {
+        At {
+            place: self.place + (1 + content_length(beyond(bytes, self.place))),
+            parts: behind,
+            ..self
         }
     }
 }
@@ -251,7 +179,7 @@ fn field_item<'a, L: TypeLibrary>(
     requires { base ≤ 17592186044416 }
     ensures { shown_item result ≡ Some (field_item (L.known library.now) bytes.now base (shown_field f.entry)) }
 {
-    let place = base + f.offset as usize;
+    let place = base + usize::from(f.offset);
     Item::Field {
         place,
         tag: f.tag,
@@ -287,174 +215,6 @@ fn part_item(bytes: &[u8], place: usize, tag: u32) -> Item<'_>
     }
 }
 
-// How many bytes n entries have.
-fn entries_length(n: u8, stride: usize) -> usize
-    requires { stride ≤ 65535 }
-    ensures value { result ≡ n * stride }
-    ensures bound { result ≤ 16711425 }
-{
-    n as usize * stride
-}
-
-impl<'a> At<'a> {
-    // In the group that begins here: the lines `behind` follow its own.
-    fn entered(self, bytes: &[u8], behind: &'a [u8]) -> At<'a>
-        requires { self.place ≤ 17592186044416 }
-        ensures { shown_spot result ≡ entered bytes.now behind.now (shown_spot self.entry) }
-    {
-        let rest = beyond(bytes, self.place);
-        let stride = entry_length(rest);
-        let entries = entry_count(rest);
-        At {
-            version: self.version,
-            left: self.left,
-            base: self.base,
-            fields: behind,
-            stride,
-            entries: entries as usize,
-            next: self.place + 3,
-            groups: behind,
-            place: self.place + (3 + entries_length(entries, stride)),
-            parts: self.parts,
-        }
-    }
-
-    // Behind the data that begins here: the lines `behind` follow its own.
-    fn past_part(self, bytes: &[u8], behind: &'a [u8]) -> At<'a>
-        requires { self.place ≤ 17592186044416 }
-        ensures { shown_spot result ≡ past_part bytes.now behind.now (shown_spot self.entry) }
-    {
-        At {
-            version: self.version,
-            left: self.left,
-            base: self.base,
-            fields: self.fields,
-            stride: self.stride,
-            entries: self.entries,
-            next: self.next,
-            groups: self.groups,
-            place: self.place + (1 + content_length(beyond(bytes, self.place))),
-            parts: behind,
-        }
-    }
-}
-
-// The field that comes next in the block at hand.
-fn field_step<'a, L: TypeLibrary>(
-    library: &L,
-    bytes: &'a [u8],
-    at: At<'a>,
-    f: FieldLine<'a>,
-) -> Step<'a>
-    requires room { roomy (shown_spot at) ≡ true }
-    requires here { Some (shown_field f) ≡ seen_first at.version (first_line at.left.now) }
-    ensures { Stepped (L.known library.now) bytes.now (shown_spot at.entry) result }
-{
-    Step {
-        item: field_item(library, bytes, at.base, f),
-        at: at.past_field(f),
-    }
-}
-
-// The group that comes next, behind the last entry of the one before.
-fn group_step<'a, L: TypeLibrary>(
-    library: &L,
-    bytes: &'a [u8],
-    at: At<'a>,
-    g: GroupLine<'a>,
-) -> Step<'a>
-    requires room { roomy (shown_spot at) ≡ true }
-    requires behind { None ≡ seen_first at.version (first_line at.left.now) }
-    requires last { at.entries ≡ 0 }
-    requires here { groups_by (Some g) ≡ groups_of (there (lines at.groups.now)) }
-    requires less { length g.behind.now < length at.groups.now }
-    ensures { Stepped (L.known library.now) bytes.now (shown_spot at.entry) result }
-{
-    seen(bytes);
-    Step {
-        item: group_item(bytes, at.place, g.tag),
-        at: at.entered(bytes, g.behind),
-    }
-}
-
-// The data that comes next, behind the last group.
-fn part_step<'a, L: TypeLibrary>(
-    library: &L,
-    bytes: &'a [u8],
-    at: At<'a>,
-    d: PartLine<'a>,
-) -> Step<'a>
-    requires room { roomy (shown_spot at) ≡ true }
-    requires behind { None ≡ seen_first at.version (first_line at.left.now) }
-    requires last { at.entries ≡ 0 }
-    requires ended { [] ≡ groups_of (there (lines at.groups.now)) }
-    requires here { parts_by at.version (Some d) ≡ parts_from at.version at.parts.now }
-    requires less { length d.behind.now < length at.parts.now }
-    ensures { Stepped (L.known library.now) bytes.now (shown_spot at.entry) result }
-{
-    seen(bytes);
-    Step {
-        item: part_item(bytes, at.place, d.tag),
-        at: at.past_part(bytes, d.behind),
-    }
-}
-
-// The next data, or the end.
-fn step_in_parts<'a, L: TypeLibrary>(library: &L, bytes: &'a [u8], at: At<'a>) -> Step<'a>
-    requires room { roomy (shown_spot at) ≡ true }
-    requires behind { None ≡ seen_first at.version (first_line at.left.now) }
-    requires last { at.entries ≡ 0 }
-    requires ended { [] ≡ groups_of (there (lines at.groups.now)) }
-    ensures { Stepped (L.known library.now) bytes.now (shown_spot at.entry) result }
-{
-    match first_part(at.parts, at.version) {
-        Some(d) => part_step(library, bytes, at, d),
-        None => Step {
-            item: Item::End,
-            at,
-        },
-    }
-}
-
-// The next group, or what follows the groups.
-fn step_in_groups<'a, L: TypeLibrary>(library: &L, bytes: &'a [u8], at: At<'a>) -> Step<'a>
-    requires room { roomy (shown_spot at) ≡ true }
-    requires behind { None ≡ seen_first at.version (first_line at.left.now) }
-    requires last { at.entries ≡ 0 }
-    ensures { Stepped (L.known library.now) bytes.now (shown_spot at.entry) result }
-{
-    match first_group(at.groups) {
-        Some(g) => group_step(library, bytes, at, g),
-        None => step_in_parts(library, bytes, at),
-    }
-}
-
-// The first field of the next entry, or what follows the entries: where one entry has no fields, none has.
-fn step_in_entries<'a, L: TypeLibrary>(library: &L, bytes: &'a [u8], at: At<'a>) -> Step<'a>
-    requires room { roomy (shown_spot at) ≡ true }
-    requires behind { None ≡ seen_first at.version (first_line at.left.now) }
-    ensures { Stepped (L.known library.now) bytes.now (shown_spot at.entry) result }
-{
-    if at.entries == 0 {
-        return step_in_groups(library, bytes, at);
-    }
-    match seen_field(at.fields, at.version) {
-        Some(f) => field_step(library, bytes, at.next_entry(), f),
-        None => step_in_groups(library, bytes, at.without_entries()),
-    }
-}
-
-// The next item.
-fn next_step<'a, L: TypeLibrary>(library: &L, bytes: &'a [u8], at: At<'a>) -> Step<'a>
-    requires { roomy (shown_spot at) ≡ true }
-    ensures { Stepped (L.known library.now) bytes.now (shown_spot at.entry) result }
-{
-    match seen_field(at.left, at.version) {
-        Some(f) => field_step(library, bytes, at, f),
-        None => step_in_entries(library, bytes, at),
-    }
-}
-
 // A walk over a frame, with the library under which the frame was accepted.
 #[derive(Drop)]
 pub struct Walk<'a, L: TypeLibrary> {
@@ -464,6 +224,111 @@ pub struct Walk<'a, L: TypeLibrary> {
 }
 
 impl<'a, L: TypeLibrary> Walk<'a, L> {
+    // Each step is asked for where nothing is left of the block, the entries or the groups before: that holds where it begins and not where it ends, so a type that carried it would be made anew in each. Room is kept by each step, and `next` asks for it anew.
+
+    // From where a walk stands: the field that comes next in the block at hand, with those behind it still to come.
+    fn field_step(&self, at: At<'a>, f: FieldLine<'a>, left: SeenFields<'a>) -> Step<'a>
+        requires room { roomy (shown_spot at) ≡ true }
+        requires here { seen_fields_left at.left ≡ shown_field f ∷ seen_fields_left left }
+        ensures { Stepped (L.known self.now.library.now) self.now.bytes.now (shown_spot at.entry) result }
+    {
+        Step {
+            item: field_item(self.library, self.bytes, at.base, f),
+            at: At { left, ..at },
+        }
+    }
+
+    // The group that comes next, behind the last entry of the one before.
+    fn group_step(&self, at: At<'a>, group: GroupLine<'a>, behind: Groups<'a>) -> Step<'a>
+        requires room { roomy (shown_spot at) ≡ true }
+        requires behind { seen_fields_left at.left ≡ [] }
+        requires last { at.entries ≡ 0 }
+        requires here { GivesGroup at.groups (Some group) behind }
+        ensures { Stepped (L.known self.now.library.now) self.now.bytes.now (shown_spot at.entry) result }
+    {
+        seen(self.bytes);
+        Step {
+            item: group_item(self.bytes, at.place, group.tag),
+            at: at.entered(self.bytes, group, behind),
+        }
+    }
+
+    // The data that comes next, behind the last group.
+    fn part_step(&self, at: At<'a>, part: PartLine, behind: SeenParts<'a>) -> Step<'a>
+        requires room { roomy (shown_spot at) ≡ true }
+        requires behind { seen_fields_left at.left ≡ [] }
+        requires last { at.entries ≡ 0 }
+        requires ended { groups_left at.groups ≡ [] }
+        requires here { GivesSeenPart at.parts (Some part) behind }
+        ensures { Stepped (L.known self.now.library.now) self.now.bytes.now (shown_spot at.entry) result }
+    {
+        seen(self.bytes);
+        Step {
+            item: part_item(self.bytes, at.place, part.tag),
+            at: at.past_part(self.bytes, behind),
+        }
+    }
+
+    // The next data, or the end.
+    fn step_in_parts(&self, at: At<'a>) -> Step<'a>
+        requires room { roomy (shown_spot at) ≡ true }
+        requires behind { seen_fields_left at.left ≡ [] }
+        requires last { at.entries ≡ 0 }
+        requires ended { groups_left at.groups ≡ [] }
+        ensures { Stepped (L.known self.now.library.now) self.now.bytes.now (shown_spot at.entry) result }
+    {
+        let mut parts = at.parts;
+        match parts.next() {
+            Some(part) => self.part_step(at, part, parts),
+            None => Step {
+                item: Item::End,
+                at,
+            },
+        }
+    }
+
+    // The next group, or what follows the groups.
+    fn step_in_groups(&self, at: At<'a>) -> Step<'a>
+        requires room { roomy (shown_spot at) ≡ true }
+        requires behind { seen_fields_left at.left ≡ [] }
+        requires last { at.entries ≡ 0 }
+        ensures { Stepped (L.known self.now.library.now) self.now.bytes.now (shown_spot at.entry) result }
+    {
+        let mut groups = at.groups;
+        match groups.next() {
+            Some(group) => self.group_step(at, group, groups),
+            None => self.step_in_parts(at),
+        }
+    }
+
+    // The first field of the next entry, or what follows the entries: where one entry has no fields, none has.
+    fn step_in_entries(&self, at: At<'a>) -> Step<'a>
+        requires room { roomy (shown_spot at) ≡ true }
+        requires behind { seen_fields_left at.left ≡ [] }
+        ensures { Stepped (L.known self.now.library.now) self.now.bytes.now (shown_spot at.entry) result }
+    {
+        if at.entries == 0 {
+            return self.step_in_groups(at);
+        }
+        let mut fields = at.fields;
+        match fields.next() {
+            Some(f) => self.field_step(at.next_entry(), f, fields),
+            None => self.step_in_groups(at.without_entries()),
+        }
+    }
+
+    // The next item.
+    fn next_step(&self, at: At<'a>) -> Step<'a>
+        requires { roomy (shown_spot at) ≡ true }
+        ensures { Stepped (L.known self.now.library.now) self.now.bytes.now (shown_spot at.entry) result }
+    {
+        let mut left = at.left;
+        match left.next() {
+            Some(f) => self.field_step(at, f, left),
+            None => self.step_in_entries(at),
+        }
+    }
+
     // The next item, and the end for ever after the last.
     pub fn next(&mut self) -> Item<'a>
         ensures item { shown_item result ≡ first_of (remaining (L.known self.old.library.now) self.old) }
@@ -474,52 +339,35 @@ impl<'a, L: TypeLibrary> Walk<'a, L> {
         if !self.at.has_room() {
             return Item::End;
         }
-        let step = next_step(self.library, self.bytes, self.at);
+        let step = self.next_step(self.at);
         self.at = step.at;
         step.item
     }
 }
 
-// A walk before its first item. Where the dictionary has no such template there is nothing to walk over.
-fn begin<'a, L: TypeLibrary>(
-    library: &'a L,
-    dictionary: &'a [u8],
-    bytes: &'a [u8],
-) -> Result<Walk<'a, L>, Refusal>
-    ensures items { all_remaining (L.known library.now) result ≡ frame_items (L.known library.now) dictionary.now bytes.now }
-    ensures holds { WalksOver library.entry bytes.entry result }
-{
-    seen(dictionary);
-    let root = stated_at(bytes, 4);
-    let number = stated_at(bytes, 6);
-    let version = stated_at(bytes, 10);
-    let place = 12 + root as usize;
-    match find(dictionary, number, version) {
-        Some(found) => {
-            found
-                .section
-                .check_geometry(library, number_at(dictionary, 5), found.place)?;
-            Ok(Walk {
-                library,
-                bytes,
-                at: At::start(version, found.section.body, place),
-            })
-        }
-        None => Ok(Walk {
-            library,
-            bytes,
-            at: At::start(version, upto(dictionary, 0), place),
-        }),
-    }
-}
-
 impl<'a> Frame<'a> {
+    // A walk before its first item. Where the dictionary has no such template there is nothing to walk over.
+    fn begin<L: TypeLibrary>(&self, library: &'a L) -> Result<Walk<'a, L>, Refusal>
+        ensures items { all_remaining (L.known library.now) result ≡ frame_items (L.known library.now) self.now.dictionary.now self.now.bytes.now }
+        ensures holds { WalksOver library.entry self.now.bytes result }
+    {
+        let body = self
+            .template(library)?
+            .map_or(upto(self.dictionary, 0), |section| section.body);
+        let place = HEADER + stated_at(self.bytes, 4) as usize;
+        Ok(Walk {
+            library,
+            bytes: self.bytes,
+            at: At::start(self.version(), body, place),
+        })
+    }
+
     // A walk over the frame: its root fields, then each group with the fields of its entries, then the data, as the frame's version shows them.
     pub fn walk<L: TypeLibrary>(&self, library: &'a L) -> Result<Walk<'a, L>, Refusal>
         ensures items { all_remaining (L.known library.now) result ≡ frame_items (L.known library.now) self.now.dictionary.now self.now.bytes.now }
         ensures holds { WalksOver library.entry self.now.bytes result }
         ensures through { Checked (L.known library.now) self.now.dictionary.now → frame_verdict (L.known library.now) self.now.dictionary.now self.now.bytes.now ≡ fine → WalkedThrough (L.known library.now) self.now.dictionary.now self.now.bytes.now }
     {
-        begin(library, self.dictionary, self.bytes)
+        self.begin(library)
     }
 }
