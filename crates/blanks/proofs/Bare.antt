@@ -5,7 +5,7 @@ use Rattle.schema.specs.Structure.{Group, Template}
 use Rattle.message.specs.Frames.{groups_bytes}
 use Rattle.message.specs.Messages.{block_view, group_view, view_of}
 use Rattle.moves.specs.Moves.{patched}
-use Rattle.moves.proofs.Patches.{patched_on, patched_none}
+use Rattle.moves.proofs.Patches.{patched_on}
 use Rattle.blanks.specs.Blanks.{Fitting, blank_block, blank_bytes, bare_group, bare_groups, bare_parts}
 use Rattle.blanks.proofs.Blocks.{from_long}
 
@@ -22,12 +22,6 @@ onward place next far x rest left bs out all cut ends fits inv o n =
       ends = omega arith;
       gives = patched_on place next x rest bs out (patched next rest out) o refl n (omega arith) ∙ ap (λ (t : List ℕ). patched place t bs) (sym cut) ∙ inv;
     }
-
--- nothing is left
-pub done : (place far : ℕ) (left bs all : List ℕ) → left ≡ [] → place + length left ≡ far → patched place left bs ≡ all → (bs ≡ all) × (place ≡ far)
-done place far left bs all none ends inv =
-    let no : length left ≡ 0 = ap length none in
-    (sym (patched_none place bs) ∙ ap (λ (t : List ℕ). patched place t bs) (sym none) ∙ inv, omega arith)
 
 -- ---- what they are in blank contents
 

@@ -12,7 +12,7 @@ use Rattle.message.specs.Messages.{slot_of, data_view}
 use Rattle.calls.specs.Changes.{blank_meaning, blank_entry, blank_contents}
 use Rattle.dictionary.specs.declared.section.Section.{Section}
 use Rattle.dictionary.specs.Shown.{shown_section}
-use Rattle.lines.specs.Walks.{fields_in}
+use Rattle.lines.specs.Held.{fields_in}
 
 -- the bytes of a block whose fields are all blank
 abbrev pub blank_block : BlockView → List ℕ

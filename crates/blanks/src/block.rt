@@ -4,12 +4,12 @@ ghost use Rattle.schema.specs.Geometry.{kind_of, is_known, field_end};
 ghost use Rattle.schema.specs.Seen.{seen_fields};
 ghost use Rattle.message.specs.Messages.{block_view};
 ghost use Rattle.dictionary.specs.Shown.{shown_field};
-ghost use Rattle.lines.specs.Walks.{fields_in};
+ghost use Rattle.lines.specs.Held.{fields_in};
 ghost use Rattle.moves.specs.Moves.{patched};
 ghost use Rattle.blanks.specs.Blanks.{Fitting, blank_field, blank_block, block_in};
 
 use dictionary::FieldLine;
-use lines::next_seen_field;
+use lines::SeenFields;
 use moves::{put, put_zeros};
 use types::TypeLibrary;
 
@@ -54,11 +54,9 @@ pub fn put_blank_block<L: TypeLibrary>(
     ensures value { buffer.new ≡ patched base (blank_block (block_view (L.known library.now) (block_in u size lines.now))) buffer.old }
     ensures len { length buffer.new ≡ length buffer.old }
 {
-    let mut left = lines;
     let mut at = 0;
-    while let Some(next) = next_seen_field(u, left) {
-        at = put_blank_field(library, next.field, buffer, base, at);
-        left = next.rest;
+    for field in SeenFields::of(u, lines) {
+        at = put_blank_field(library, field, buffer, base, at);
     }
     put_zeros(buffer, base + at, size - at);
 }

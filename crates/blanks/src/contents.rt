@@ -2,17 +2,18 @@
 ghost use Rattle.std.specs.Prelude.{◌≡◌, ◌+◌, ◌≤◌, map, length};
 ghost use Rattle.schema.specs.Seen.{seen_group, seen_parts};
 ghost use Rattle.message.specs.Messages.{view_of};
-ghost use Rattle.lines.specs.Walks.{groups_in, parts_in};
+ghost use Rattle.lines.specs.Held.{groups_in, parts_in};
 ghost use Rattle.moves.specs.Moves.{patched};
 ghost use Rattle.blanks.specs.Blanks.{Fitting, blank_bytes, template_in, bare_group, bare_groups, bare_parts};
 
 use crate::block::put_blank_block;
 use dictionary::Section;
-use lines::{length_at, next_group, next_seen_part};
+use lines::{Groups, SeenParts, length_at};
 use moves::{put_byte, put_number};
 use types::TypeLibrary;
 
 // A group without entries, each of which would be `size` bytes long.
+// A buffer and a place stay two parameters: every call that puts bytes takes both, and a struct of the two would be taken apart at each.
 fn put_bare_group(buffer: &mut [u8], p: usize, size: u16)
     requires { p + 3 ≤ length buffer.old }
     ensures value { buffer.new ≡ patched p (bare_group size) buffer.old }
@@ -29,28 +30,24 @@ fn put_bare_groups(u: u16, lines: &[u8], buffer: &mut [u8], p: usize) -> usize
     ensures end { result ≡ p + length (bare_groups (map (seen_group u) (groups_in lines.now))) }
     ensures len { length buffer.new ≡ length buffer.old }
 {
-    let mut left = lines;
     let mut place = p;
-    while let Some(next) = next_group(left) {
-        put_bare_group(buffer, place, length_at(u, next.size, next.rest));
+    for group in Groups::of(lines) {
+        put_bare_group(buffer, place, length_at(u, group.size, group.lines));
         place += 3;
-        left = next.rest;
     }
     place
 }
 
-// The data of a template that are seen at u, empty.
+// The data of a template that are seen at u, empty. By a loop: to count them first, this crate would have to use places, for a lemma alone.
 fn put_bare_parts(u: u16, lines: &[u8], buffer: &mut [u8], p: usize)
     requires { p + length (bare_parts (seen_parts u (parts_in lines.now))) ≤ length buffer.old }
     ensures value { buffer.new ≡ patched p (bare_parts (seen_parts u (parts_in lines.now))) buffer.old }
     ensures len { length buffer.new ≡ length buffer.old }
 {
-    let mut left = lines;
     let mut place = p;
-    while let Some(next) = next_seen_part(u, left) {
+    for _ in SeenParts::of(u, lines) {
         put_byte(buffer, place, 0);
         place += 1;
-        left = next.rest;
     }
 }
 

@@ -5,7 +5,7 @@ ghost use Rattle.message.specs.Messages.{header};
 
 use moves::put_number;
 
-// What the second number of a header is.
+// What the second number of a header is. A limit stands in each crate that holds to it, so that an edit of it proves that crate alone.
 const ENCODING: u16 = 0xEB50;
 
 // Puts a header at the front: the length of the whole frame, that of the root block, the template, the schema id and the version.

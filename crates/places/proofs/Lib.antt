@@ -1,1 +1,3 @@
+pub mod Counting
 pub mod Spots
+pub mod Finding

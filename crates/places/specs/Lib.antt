@@ -1,3 +1,4 @@
 pub mod Places
 pub mod Shown
 pub mod Spots
+pub mod Walks

@@ -7,10 +7,11 @@ use Rattle.schema.specs.Structure.{Group}
 use Rattle.schema.specs.Seen.{seen_fields, seen_group}
 use Rattle.message.specs.Frames.{entry_count}
 use Rattle.dictionary.specs.Shown.{shown_field}
-use Rattle.lines.specs.Walks.{fields_in, data_at}
-use Rattle.places.specs.declared.fields.FieldPlace.{FieldPlace}
-use Rattle.places.specs.declared.groups.GroupPlace.{GroupPlace}
-use Rattle.places.specs.declared.parts.PartPlace.{PartPlace}
+use Rattle.lines.specs.Held.{fields_in}
+use Rattle.lines.specs.Walks.{data_at}
+use Rattle.places.specs.declared.place.FieldPlace.{FieldPlace}
+use Rattle.places.specs.declared.place.GroupPlace.{GroupPlace}
+use Rattle.places.specs.declared.place.PartPlace.{PartPlace}
 use Rattle.places.specs.Places.{PlacedField, PlacedGroup, PlacedPart}
 
 -- there is no such group, entry or tag

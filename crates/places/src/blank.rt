@@ -1,23 +1,17 @@
 // How many bytes the groups and the data of a blank form take.
 ghost use Rattle.std.specs.Prelude.{◌≡◌, ◌*◌, ◌^◌, ◌≤◌, length};
 ghost use Rattle.schema.specs.Seen.{seen_parts};
-ghost use Rattle.lines.specs.Walks.{groups_in, parts_in};
+ghost use Rattle.lines.specs.Held.{groups_in, parts_in};
 ghost use Rattle.places.specs.Places.{prefixes};
 
-use lines::{next_group, next_seen_part};
+use lines::{Groups, SeenParts};
 
 // The heads of the groups: 3 bytes each.
 pub fn heads_length(lines: &[u8]) -> usize
     ensures value { result ≡ 3 * length (groups_in lines.now) }
     ensures most { result ≤ 2 ^ 62 }
 {
-    let mut left = lines;
-    let mut long = 0;
-    while let Some(next) = next_group(left) {
-        long += 3;
-        left = next.rest;
-    }
-    long
+    3 * Groups::of(lines).count()
 }
 
 // The lengths of the data as they are seen at u: a byte each.
@@ -25,11 +19,5 @@ pub fn prefixes_length(u: u16, lines: &[u8]) -> usize
     ensures value { result ≡ prefixes (seen_parts u (parts_in lines.now)) }
     ensures most { result ≤ 2 ^ 62 }
 {
-    let mut left = lines;
-    let mut long = 0;
-    while let Some(next) = next_seen_part(u, left) {
-        long += 1;
-        left = next.rest;
-    }
-    long
+    SeenParts::of(u, lines).count()
 }

@@ -5,10 +5,9 @@ mod blank;
 mod fields;
 mod groups;
 mod parts;
+mod place;
 mod refusing;
 mod template;
 
-pub use fields::FieldPlace;
-pub use groups::GroupPlace;
-pub use parts::PartPlace;
+pub use place::{FieldPlace, GroupPlace, PartPlace};
 pub use template::{blank_length, field_place, group_place, part_place};

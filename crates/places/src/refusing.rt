@@ -8,9 +8,5 @@ use wire::{Reason, Refusal};
 pub fn no_such(tag: u32) -> Refusal
     ensures { result ≡ none_such tag }
 {
-    Refusal {
-        reason: Reason::NotFound,
-        place: 0,
-        tag,
-    }
+    Reason::NotFound.at(0, tag)
 }
