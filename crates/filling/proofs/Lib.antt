@@ -1,3 +1,4 @@
 pub mod Fronts
 pub mod Blanks
+pub mod Patterns
 pub mod Readiness

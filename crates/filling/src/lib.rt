@@ -8,8 +8,5 @@ mod setting;
 mod working;
 mod writing;
 
-pub use adding::{append_entry, drop_entry};
 pub use opening::open_frame;
-pub use setting::{clear_field, set_field};
-pub use working::{Numbers, check_closed, works_on};
-pub use writing::write_data;
+pub use working::{Numbers, Working, check_closed, works_on};

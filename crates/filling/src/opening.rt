@@ -1,6 +1,5 @@
 // A blank frame put in front of a buffer.
-ghost use Rattle.std.specs.Prelude.{◌≡◌, ◌+◌, ◌^◌, ◌<◌, ◌≤◌, length, Some, Err};
-ghost use Rattle.wire.specs.Refusals.{refusal};
+ghost use Rattle.std.specs.Prelude.{◌≡◌, ◌≤◌, length, Some};
 ghost use Rattle.moves.specs.Moves.{patched};
 ghost use Rattle.schema.specs.Reading.{template_of};
 ghost use Rattle.schema.specs.Seen.{block_length};
@@ -13,6 +12,7 @@ ghost use Rattle.filling.specs.Fits.{RightSection};
 ghost use Rattle.steps.specs.Steps.{open_step, open_by, Leaves};
 
 use crate::room::check_room;
+use crate::working::Numbers;
 use blanks::{put_blank_contents, put_header};
 use dictionary::{Found, Section, find};
 use lines::{length_at, number_at};
@@ -20,41 +20,28 @@ use places::blank_length;
 use types::TypeLibrary;
 use wire::{Reason, Refusal};
 
-// There is no such template at the version, or the version is above the dictionary's.
-fn cannot_open() -> Result<usize, Refusal>
-    ensures { result ≡ Err (refusal Reason.CannotOpen 0 0) }
-{
-    Err(Refusal {
-        reason: Reason::CannotOpen,
-        place: 0,
-        tag: 0,
-    })
-}
-
-// Puts the blank frame of a template, `whole` bytes long.
+// Puts the blank frame of a form.
 fn put_blank_frame<L: TypeLibrary>(
     library: &L,
     buffer: &mut [u8],
     section: Section<'_>,
-    template: u16,
     schema: u16,
-    version: u16,
-    whole: usize,
+    form: Numbers,
 )
     requires right { RightSection (L.known library.now) (shown_section section) }
-    requires long { whole ≡ blank_needed version (template_of (shown_section section)) }
-    requires room { whole ≤ length buffer.old }
-    requires short { whole ≤ 16384 }
-    ensures { buffer.new ≡ patched 0 (header whole (block_length version (template_of (shown_section section.entry)).root) template schema version) (patched 12 (blank_bytes (view_of (L.known library.now) (template_in version section.entry))) buffer.old) }
+    requires long { form.length ≡ blank_needed form.version (template_of (shown_section section)) }
+    requires room { form.length ≤ length buffer.old }
+    requires short { form.length ≤ 16384 }
+    ensures { buffer.new ≡ patched 0 (header form.length (block_length form.version (template_of (shown_section section.entry)).root) form.template schema form.version) (patched 12 (blank_bytes (view_of (L.known library.now) (template_in form.version section.entry))) buffer.old) }
 {
-    put_blank_contents(library, version, section, buffer);
+    put_blank_contents(library, form.version, section, buffer);
     put_header(
         buffer,
-        whole as u16,
-        length_at(version, section.size, section.body),
-        template,
+        form.length as u16,
+        length_at(form.version, section.size, section.body),
+        form.template,
         schema,
-        version,
+        form.version,
     );
 }
 
@@ -67,24 +54,24 @@ fn open_with<L: TypeLibrary>(
     version: u16,
     found: Found<'_>,
 ) -> Result<usize, Refusal>
-    requires { found.place + 8 + length found.section.body.now < 2 ^ 63 }
     ensures { Leaves (open_by (L.known library.now) dictionary.now buffer.old template version (Some (placed_section found.entry))) result buffer.old buffer.new }
 {
-    found
-        .section
-        .check_geometry(library, number_at(dictionary, 5), found.place)?;
-    let whole = blank_length(version, found.section);
-    check_room(whole, buffer.len())?;
+    found.check_geometry(library, number_at(dictionary, 5))?;
+    let length = blank_length(version, found.section);
+    check_room(length, buffer.len())?;
+    let form = Numbers {
+        template,
+        version,
+        length,
+    };
     put_blank_frame(
         library,
         buffer,
         found.section,
-        template,
         number_at(dictionary, 3),
-        version,
-        whole,
+        form,
     );
-    Ok(whole)
+    Ok(length)
 }
 
 // Puts the blank frame of a template at a version in front of a buffer: how long it is.
@@ -98,10 +85,8 @@ pub fn open_frame<L: TypeLibrary>(
     ensures { Leaves (open_step (L.known library.now) dictionary.now buffer.old template version) result buffer.old buffer.new }
 {
     if version > number_at(dictionary, 5) {
-        return cannot_open();
+        return Err(Reason::CannotOpen.at(0, 0));
     }
-    let Some(found) = find(dictionary, template, version) else {
-        return cannot_open();
-    };
+    let found = find(dictionary, template, version).ok_or(Reason::CannotOpen.at(0, 0))?;
     open_with(dictionary, library, buffer, template, version, found)
 }

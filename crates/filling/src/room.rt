@@ -1,13 +1,13 @@
 // Bytes put and moved where there is room for them.
-ghost use Rattle.std.specs.Prelude.{◌≡◌, ◌+◌, ◌≤◌, [], ◌∷◌, length, Ok, nat_le};
+ghost use Rattle.std.specs.Prelude.{◌≡◌, ◌+◌, ◌≤◌, length, Ok, nat_le};
 ghost use Rattle.wire.specs.Numbers.{le_bytes};
 ghost use Rattle.steps.specs.Steps.{patched_in, shifted_in, has_room};
 
-use moves::{put, put_byte, put_number, shift};
+use moves::{put, shift};
 use wire::{Reason, Refusal};
 
-// The longest frame.
-const LONGEST: usize = 16384;
+// The longest frame. A limit stands in each crate that holds to it, so that an edit of it proves that crate alone.
+pub const LONGEST: usize = 16384;
 
 // Whether n bytes from p on lie within a buffer.
 pub fn is_within(room: usize, p: usize, n: usize) -> bool
@@ -15,6 +15,8 @@ pub fn is_within(room: usize, p: usize, n: usize) -> bool
 {
     p <= room && n <= room - p
 }
+
+// Buffer and place stay two parameters, as in moves.
 
 // The bytes x at p.
 pub fn put_in(buffer: &mut [u8], p: usize, x: &[u8])
@@ -26,24 +28,12 @@ pub fn put_in(buffer: &mut [u8], p: usize, x: &[u8])
     }
 }
 
-// One byte at p.
-pub fn put_byte_in(buffer: &mut [u8], p: usize, b: u8)
-    ensures value { buffer.new ≡ patched_in p (b ∷ []) buffer.old }
-    ensures long { length buffer.new ≡ length buffer.old }
-{
-    if is_within(buffer.len(), p, 1) {
-        put_byte(buffer, p, b);
-    }
-}
-
 // How long the frame is, at its beginning.
 pub fn put_length(buffer: &mut [u8], n: u16)
     ensures value { buffer.new ≡ patched_in 0 (le_bytes 2 n) buffer.old }
     ensures long { length buffer.new ≡ length buffer.old }
 {
-    if is_within(buffer.len(), 0, 2) {
-        put_number(buffer, 0, n);
-    }
+    put_in(buffer, 0, &n.to_le_bytes());
 }
 
 // What stands from `from` up to `end` also at `to`.
@@ -62,11 +52,7 @@ pub fn check_room(n: usize, room: usize) -> Result<(), Refusal>
     ensures fits { result ≡ Ok tt → (n ≤ room) × (n ≤ 16384) }
 {
     if n > room || n > LONGEST {
-        return Err(Refusal {
-            reason: Reason::NoRoom,
-            place: n,
-            tag: 0,
-        });
+        return Err(Reason::NoRoom.at(n, 0));
     }
     Ok(())
 }

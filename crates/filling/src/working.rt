@@ -1,21 +1,20 @@
 // The template that a form is filled in by.
-ghost use Rattle.std.specs.Prelude.{◌≡◌, ◌+◌, ◌^◌, ◌<◌, length, Some};
+ghost use Rattle.std.specs.Prelude.{◌≡◌, ◌≤◌, Some, IfOk, MatchResult, is_ok};
 ghost use Rattle.dictionary.specs.Found.{placed_section};
+ghost use Rattle.dictionary.specs.Shown.{shown_section};
 ghost use Rattle.message.specs.Messages.{is_there};
-ghost use Rattle.message.specs.Fronts.{is_fine, is_frame_of, front_message};
-ghost use Rattle.steps.specs.Steps.{not_this_form, working_by, working, close_step};
+ghost use Rattle.message.specs.Fronts.{is_frame_of, front_message};
+ghost use Rattle.steps.specs.Steps.{working_by, working, close_step};
 ghost use Rattle.wire.specs.Bytes.{Bytes};
 ghost use Rattle.filling.specs.Shown.{plain_numbers, shown_working};
-ghost use Rattle.filling.specs.Fits.{Ready};
+ghost use Rattle.filling.specs.Fits.{RightSection};
 
+use crate::room::LONGEST;
 use dictionary::{Found, Section, find};
 use judging::{judge, stated_at};
 use lines::number_at;
 use types::TypeLibrary;
 use wire::{Reason, Refusal, seen, upto};
-
-// The longest frame.
-const LONGEST: usize = 16384;
 
 // What a form is in a buffer: the number of its template, its version, and the length of its frame.
 #[derive(Clone, Copy)]
@@ -25,25 +24,12 @@ pub struct Numbers {
     pub length: usize,
 }
 
-// The buffer does not begin with the form's frame.
-fn not_this_form<'a>() -> Result<Section<'a>, Refusal>
-    ensures { shown_working result ≡ not_this_form }
-{
-    Err(Refusal {
-        reason: Reason::NotThisForm,
-        place: 0,
-        tag: 0,
-    })
-}
-
-// Whether no rule is broken.
-fn is_fine(verdict: Result<(), Refusal>) -> bool
-    ensures { result ≡ is_fine verdict }
-{
-    match verdict {
-        Ok(_) => true,
-        Err(_) => false,
-    }
+// What is filled in, and by what: a form, its template and the library.
+#[derive(Drop)]
+pub struct Working<'a, 'l, L> {
+    pub library: &'l L,
+    pub section: Section<'a>,
+    pub form: Numbers,
 }
 
 // Whether bytes are the frame of some message of the template at the version, with required fields absent or not.
@@ -59,8 +45,10 @@ fn is_frame_of<L: TypeLibrary>(
     stated_at(bytes, 6) == template
         && stated_at(bytes, 10) == version
         && version <= number_at(dictionary, 5)
-        && is_fine(judge(library, false, dictionary, bytes))
+        && judge(library, false, dictionary, bytes).is_ok()
 }
+
+// A rule of the project: dictionary, library and buffer are passed at each call.
 
 // Whether a buffer begins with the frame of a message of the template, the version and the length.
 fn begins_with<L: TypeLibrary>(dictionary: &[u8], library: &L, buffer: &[u8], form: Numbers) -> bool
@@ -84,14 +72,11 @@ fn works_with<'a, L: TypeLibrary>(
     form: Numbers,
     found: Found<'a>,
 ) -> Result<Section<'a>, Refusal>
-    requires { found.place + 8 + length found.section.body.now < 2 ^ 63 }
     ensures { shown_working result ≡ working_by (L.known library.now) dictionary.now buffer.now (plain_numbers form) (Some (placed_section found.entry)) }
 {
-    found
-        .section
-        .check_geometry(library, number_at(dictionary, 5), found.place)?;
+    found.check_geometry(library, number_at(dictionary, 5))?;
     if !begins_with(dictionary, library, buffer, form) {
-        return not_this_form();
+        return Err(Reason::NotThisForm.at(0, 0));
     }
     Ok(found.section)
 }
@@ -106,27 +91,32 @@ fn working_section<'a, L: TypeLibrary>(
     ensures { shown_working result ≡ working (L.known library.now) dictionary.now buffer.now (plain_numbers form) }
 {
     if form.version > number_at(dictionary, 5) {
-        return not_this_form();
+        return Err(Reason::NotThisForm.at(0, 0));
     }
-    let Some(found) = find(dictionary, form.template, form.version) else {
-        return not_this_form();
-    };
+    let found = find(dictionary, form.template, form.version).ok_or(Reason::NotThisForm.at(0, 0))?;
     works_with(dictionary, library, buffer, form, found)
 }
 
-// The same: what is filled in by it has its types and geometry right, and the frame is no longer than a frame may be.
-pub fn works_on<'a, L: TypeLibrary>(
+// The same, to fill in by: the types and the geometry of the template are right, and the frame is no longer than a frame may be.
+// Clauses and no ghost field: the struct is named in a closure's bound, and a field is set in a form of any length.
+pub fn works_on<'a, 'l, L: TypeLibrary>(
     dictionary: &'a [u8],
-    library: &L,
+    library: &'l L,
     buffer: &[u8],
     form: Numbers,
-) -> Result<Section<'a>, Refusal>
-    ensures value { shown_working result ≡ working (L.known library.now) dictionary.now buffer.now (plain_numbers form) }
-    ensures ready { Ready (L.known library.now) result form.length }
+) -> Result<Working<'a, 'l, L>, Refusal>
+    ensures value { MatchResult result (λ w. (working (L.known library.now) dictionary.now buffer.now (plain_numbers form) ≡ Ok (shown_section w.section)) × (w.library.now ≡ library.now) × (w.form ≡ form)) (λ e. working (L.known library.now) dictionary.now buffer.now (plain_numbers form) ≡ Err e) }
+    ensures right { IfOk result (λ w. RightSection (L.known library.now) (shown_section w.section)) }
+    ensures short { IfOk result (λ w. w.form.length ≤ 16384) }
     ensures bytes { Bytes buffer.now }
 {
     seen(buffer);
-    working_section(dictionary, library, buffer, form)
+    let section = working_section(dictionary, library, buffer, form)?;
+    Ok(Working {
+        library,
+        section,
+        form,
+    })
 }
 
 // What a form has to be to be closed: the buffer begins with its frame, no required field is absent, and the frame is no longer than a frame may be.
@@ -141,11 +131,7 @@ pub fn check_closed<L: TypeLibrary>(
     working_section(dictionary, library, buffer, form)?;
     judge(library, true, dictionary, upto(buffer, form.length))?;
     if form.length > LONGEST {
-        return Err(Refusal {
-            reason: Reason::TooLong,
-            place: 0,
-            tag: 0,
-        });
+        return Err(Reason::TooLong.at(0, 0));
     }
     Ok(())
 }

@@ -10,10 +10,10 @@ put_blank_contents-requires g c =
     let lawful = g.met.L.TypeLibrary.lawful c.args.library.now in
     let t = shown_section c.args.section in
     let right = c.requires.right in
-    let needs = geometry_needs known lawful right.version right.place c.args.version t right.geometry in
+    let needs = geometry_needs known lawful right.version right.place c.args.form.version t right.geometry in
     let long = c.requires.long in
     let room = c.requires.room in
     record {
       room = omega arith;
-      fit = (geometry_fits known lawful right.version right.place c.args.version t right.geometry).root;
+      fit = (geometry_fits known lawful right.version right.place c.args.form.version t right.geometry).root;
     }

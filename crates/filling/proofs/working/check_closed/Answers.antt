@@ -1,4 +1,4 @@
-use Rattle.std.proofs.Common.{true, take, sym, ap, ◌∙◌}
+use Rattle.std.proofs.Common.{true, Err, take, sym, ap, ◌∙◌}
 use Rattle.std.proofs.lemmas.Result.{err_from_is_err_and}
 use Rattle.message.specs.Messages.{verdict_when}
 use Rattle.filling.specs.Shown.{shown_working}
@@ -16,7 +16,7 @@ pub returns-then-form-gt-LONGEST : goal.returns-then-form-gt-LONGEST
 returns-then-form-gt-LONGEST g c =
     let known = g.L.TypeLibrary.known c.args.library.now in
     let s = c.args.dictionary.now in
-    sym (passed_then _ _ (verdict_when true known s (take c.args.form.length c.args.buffer.now)) _ (sym c.working_section.ensures ∙ ap shown_working c.in_ok-working_section.was) (sym (c.judge.ensures ∙ ap (verdict_when true known s) c.upto.ensures) ∙ c.in_ok-judge.was)
+    ap Err c.at.ensures ∙ sym (passed_then _ _ (verdict_when true known s (take c.args.form.length c.args.buffer.now)) _ (sym c.working_section.ensures ∙ ap shown_working c.in_ok-working_section.was) (sym (c.judge.ensures ∙ ap (verdict_when true known s) c.upto.ensures) ∙ c.in_ok-judge.was)
     ∙ too_long c.args.form.length c.if-form-gt-LONGEST.true)
 
 pub returns : goal.returns
