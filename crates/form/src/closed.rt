@@ -1,55 +1,33 @@
 // A form that is closed: its frame is ready to be sent.
-ghost use Rattle.std.specs.Prelude.{◌≡◌};
+ghost use Rattle.std.specs.Prelude.{◌≡◌, Ok};
+ghost use Rattle.wire.specs.Bytes.{Bytes};
+ghost use Rattle.wire.specs.Refusals.{bind};
 ghost use Rattle.schema.specs.Reading.{dictionary_of};
 ghost use Rattle.calls.specs.Calls.{by_buffer, reopening};
+ghost use Rattle.steps.specs.Steps.{working};
 ghost use Rattle.filling.specs.Shown.{plain_numbers};
-ghost use Rattle.form.specs.Forms.{closed_numbers, ReopensIt};
+ghost use Rattle.form.specs.Forms.{form_numbers, Changes};
 
-use crate::open::OpenForm;
+use crate::order_form::{ClosedForm, OpenForm};
 use filling::{Numbers, works_on};
 use types::TypeLibrary;
 use wire::Refusal;
 
-// The number of the template, the version at which it is seen, and the length of the frame that the buffer begins with. Neither Copy nor Drop: a closed form is reopened, or let go by name.
-pub struct ClosedForm {
-    pub(crate) template: u16,
-    pub(crate) version: u16,
-    pub(crate) length: usize,
+// What a form has to be to be opened again: the buffer begins with its frame.
+fn check_reopened<L: TypeLibrary>(
+    dictionary: &[u8],
+    library: &L,
+    buffer: &[u8],
+    form: Numbers,
+) -> Result<(), Refusal>
+    ensures value { result ≡ bind (working (L.known library.now) dictionary.now buffer.now (plain_numbers form)) (λ _. Ok tt) }
+    ensures bytes { Bytes buffer.now }
+{
+    works_on(dictionary, library, buffer, form)?;
+    Ok(())
 }
 
 impl ClosedForm {
-    // The number of the template.
-    pub fn template(&self) -> u16
-        ensures { result ≡ self.now.template }
-    {
-        self.template
-    }
-
-    // The version at which the template is seen.
-    pub fn version(&self) -> u16
-        ensures { result ≡ self.now.version }
-    {
-        self.version
-    }
-
-    // How long the frame is that the buffer begins with.
-    pub fn length(&self) -> usize
-        ensures { result ≡ self.now.length }
-    {
-        self.length
-    }
-
-    // The three of them.
-    fn numbers(&self) -> Numbers
-        ensures { plain_numbers result ≡ closed_numbers self.now }
-    {
-        Numbers {
-            template: self.template,
-            version: self.version,
-            length: self.length,
-        }
-    }
-
     // Opens the form again, with the message that it holds.
     pub fn reopen<L: TypeLibrary>(
         self,
@@ -57,31 +35,9 @@ impl ClosedForm {
         library: &L,
         buffer: &[u8],
     ) -> Result<OpenForm, (ClosedForm, Refusal)>
-        ensures { ReopensIt (L.known library.now) (dictionary_of dictionary.now) (reopening (L.known library.now) dictionary.now (by_buffer (L.known library.now) dictionary.now buffer.now) (closed_numbers self)) result self buffer.now }
+        ensures { Changes (L.known library.now) (dictionary_of dictionary.now) (reopening (L.known library.now) dictionary.now (by_buffer (L.known library.now) dictionary.now buffer.now) (form_numbers self)) result self buffer.now }
     {
-        match works_on(dictionary, library, buffer, self.numbers()) {
-            Ok(_) => {
-                let ClosedForm {
-                    template,
-                    version,
-                    length,
-                } = self;
-                Ok(OpenForm {
-                    template,
-                    version,
-                    length,
-                })
-            }
-            Err(e) => Err((self, e)),
-        }
-    }
-
-    // Lets the form go.
-    pub fn abandon(self) {
-        let ClosedForm {
-            template: _,
-            version: _,
-            length: _,
-        } = self;
+        let checked = check_reopened(dictionary, library, buffer, self.numbers);
+        self.changed(checked)
     }
 }

@@ -3,6 +3,6 @@
 
 mod closed;
 mod open;
+mod order_form;
 
-pub use closed::ClosedForm;
-pub use open::OpenForm;
+pub use order_form::{Closed, ClosedForm, Open, OpenForm, OrderForm};

@@ -5,7 +5,7 @@ use Rattle.types.specs.Meanings.{meaning}
 use Rattle.calls.specs.Calls as calls
 use Rattle.calls.specs.Calls.{Numbers, begin, fill, close, reopen, set, clear, append, remove, write, no_form, opened, closed, accepted, refused, not_in_turn}
 use Rattle.calls.specs.Runs.{Run}
-use Rattle.form.specs.Forms.{open_numbers, closed_numbers}
+use Rattle.form.specs.Forms.{form_numbers}
 use Rattle.replay.specs.declared.asked.Call.{Call}
 use Rattle.replay.specs.declared.asked.Call.TheVariants as call
 use Rattle.replay.specs.declared.asked.Answer.{Answer}
@@ -27,8 +27,8 @@ shown_call call.Reopen = reopen
 -- a form, by its plain numbers
 abbrev pub shown_form : Form → calls.Form Numbers
 shown_form form.None = no_form
-shown_form (form.Open f) = opened (open_numbers f)
-shown_form (form.Closed f) = closed (closed_numbers f)
+shown_form (form.Open f) = opened (form_numbers f)
+shown_form (form.Closed f) = closed (form_numbers f)
 
 abbrev pub shown_answer : Answer → calls.Answer
 shown_answer answer.Accepted = accepted

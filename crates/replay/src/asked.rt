@@ -50,12 +50,14 @@ pub enum Answer {
 }
 
 // The answer to a call that is made.
-pub(crate) fn answered(r: Result<(), Refusal>) -> Answer
-    ensures { result ≡ answer_to r }
-{
-    match r {
-        Ok(()) => Answer::Accepted,
-        Err(e) => Answer::Refused(e),
+impl From<Result<(), Refusal>> for Answer {
+    ghost from_gives = { λ made said. said ≡ answer_to made };
+
+    fn from(made: Result<(), Refusal>) -> Answer {
+        match made {
+            Ok(()) => Answer::Accepted,
+            Err(e) => Answer::Refused(e),
+        }
     }
 }
 

@@ -1,7 +1,7 @@
 // The form that is held in a buffer.
 use form::{ClosedForm, OpenForm};
 
-// No form, an open one or a closed one. Neither Copy nor Drop: it is moved on, or let go by name.
+// No form, an open one or a closed one. A rule of the project: a form is one enum, with none as a case. Neither Copy nor Drop: it is moved on, or let go by name.
 pub enum Form {
     None,
     Open(OpenForm),

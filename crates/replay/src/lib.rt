@@ -7,4 +7,4 @@ mod running;
 
 pub use asked::{Answer, Call};
 pub use held::Form;
-pub use running::run;
+pub use running::{make, run};

@@ -1,18 +1,24 @@
 // Calls made one after another.
-ghost use Rattle.std.specs.Prelude.{◌≡◌, ◌++◌, map, length, drop};
+ghost use Rattle.std.specs.Prelude.{◌≡◌, ℕ, List, ◌++◌, map, length, drop};
 ghost use Rattle.schema.specs.Laws.{Checked};
+ghost use Rattle.schema.specs.Reading.{dictionary_of};
+ghost use Rattle.types.specs.Kinds.{Known};
 ghost use Rattle.types.specs.Meanings.{meaning};
-ghost use Rattle.calls.specs.Calls.{begin, fill, set, clear, append, remove, write, close, reopen, SayableCall, no_form};
+ghost use Rattle.calls.specs.Calls.{Fill, begin, fill, filling, by_buffer, set, close, reopen, SayableCall, no_form};
 ghost use Rattle.calls.specs.Runs.{run_by_buffer};
 ghost use Rattle.calls.specs.Laws.{KeepsTheLaw};
+ghost use Rattle.form.specs.Forms.{form_numbers, Fills};
 ghost use Rattle.replay.specs.Shown.{shown_call, shown_form, shown_answer, made_calls, answers_of};
 ghost use Rattle.replay.specs.Turns.{Turned};
 
-use crate::asked::{Answer, Call, answered, sayable};
+use crate::asked::{Answer, Call, sayable};
 use crate::held::Form;
 use form::OpenForm;
-use types::{TypeLibrary, Value};
-use wire::seen;
+use std::slice;
+use types::TypeLibrary;
+use wire::{Refusal, seen};
+
+// A rule of the project: dictionary, library and buffer are passed at each call.
 
 // Begins a new message, in place of the form that there is.
 fn open_turn<L: TypeLibrary>(
@@ -34,120 +40,25 @@ fn open_turn<L: TypeLibrary>(
     }
 }
 
-// Sets a field of an open form.
-fn set_turn<L: TypeLibrary>(
-    dictionary: &[u8],
-    library: &L,
+// Fills in an open form, by a call on it and the buffer.
+fn fill_turn<F: FnOnce(&mut OpenForm, &mut [u8]) -> Result<(), Refusal>>(
     buffer: &mut [u8],
     form: Form,
-    group: u32,
-    entry: usize,
-    tag: u32,
-    value: Value<'_>,
+    call: F,
 ) -> (Form, Answer)
-    ensures { Turned (L.known library.now) dictionary.now (shown_form form) buffer.old (fill (set group entry tag (meaning value.entry))) result.0 result.1 buffer.new }
+    requires { F.IsAlwaysCallable call }
+    ensures { (known : Known) (s : List ℕ) (k : Fill) → ((f : _) (b : _) (r : _) (f' : _) (b' : _) → F.post call f b r f' b' → Fills known (dictionary_of s) (filling known s (by_buffer known s b.now) (length b.now) (form_numbers f.now) k) r f.now f'.now b.now b'.now) → Turned known s (shown_form form) buffer.old (fill k) result.0 result.1 buffer.new }
 {
     match form {
-        Form::Open(held) => {
-            let mut filled = held;
-            let answer = answered(filled.set(
-                dictionary, library, buffer, group, entry, tag, value,
-            ));
-            (Form::Open(filled), answer)
+        Form::Open(mut held) => {
+            let answer = Answer::from(call(&mut held, buffer));
+            (Form::Open(held), answer)
         }
-        Form::None => (Form::None, Answer::OutOfTurn),
-        Form::Closed(held) => (Form::Closed(held), Answer::OutOfTurn),
+        other => (other, Answer::OutOfTurn),
     }
 }
 
-// Clears a field of an open form.
-fn clear_turn<L: TypeLibrary>(
-    dictionary: &[u8],
-    library: &L,
-    buffer: &mut [u8],
-    form: Form,
-    group: u32,
-    entry: usize,
-    tag: u32,
-) -> (Form, Answer)
-    ensures { Turned (L.known library.now) dictionary.now (shown_form form) buffer.old (fill (clear group entry tag)) result.0 result.1 buffer.new }
-{
-    match form {
-        Form::Open(held) => {
-            let mut filled = held;
-            let answer = answered(filled.clear(dictionary, library, buffer, group, entry, tag));
-            (Form::Open(filled), answer)
-        }
-        Form::None => (Form::None, Answer::OutOfTurn),
-        Form::Closed(held) => (Form::Closed(held), Answer::OutOfTurn),
-    }
-}
-
-// Adds an entry to a group of an open form.
-fn append_turn<L: TypeLibrary>(
-    dictionary: &[u8],
-    library: &L,
-    buffer: &mut [u8],
-    form: Form,
-    group: u32,
-) -> (Form, Answer)
-    ensures { Turned (L.known library.now) dictionary.now (shown_form form) buffer.old (fill (append group)) result.0 result.1 buffer.new }
-{
-    match form {
-        Form::Open(held) => {
-            let mut filled = held;
-            let answer = answered(filled.append(dictionary, library, buffer, group));
-            (Form::Open(filled), answer)
-        }
-        Form::None => (Form::None, Answer::OutOfTurn),
-        Form::Closed(held) => (Form::Closed(held), Answer::OutOfTurn),
-    }
-}
-
-// Takes the last entry of a group of an open form away.
-fn drop_turn<L: TypeLibrary>(
-    dictionary: &[u8],
-    library: &L,
-    buffer: &mut [u8],
-    form: Form,
-    group: u32,
-) -> (Form, Answer)
-    ensures { Turned (L.known library.now) dictionary.now (shown_form form) buffer.old (fill (remove group)) result.0 result.1 buffer.new }
-{
-    match form {
-        Form::Open(held) => {
-            let mut filled = held;
-            let answer = answered(filled.drop(dictionary, library, buffer, group));
-            (Form::Open(filled), answer)
-        }
-        Form::None => (Form::None, Answer::OutOfTurn),
-        Form::Closed(held) => (Form::Closed(held), Answer::OutOfTurn),
-    }
-}
-
-// Writes a data of an open form.
-fn write_turn<L: TypeLibrary>(
-    dictionary: &[u8],
-    library: &L,
-    buffer: &mut [u8],
-    form: Form,
-    tag: u32,
-    content: &[u8],
-) -> (Form, Answer)
-    ensures { Turned (L.known library.now) dictionary.now (shown_form form) buffer.old (fill (write tag content.now)) result.0 result.1 buffer.new }
-{
-    match form {
-        Form::Open(held) => {
-            let mut filled = held;
-            let answer = answered(filled.write(dictionary, library, buffer, tag, content));
-            (Form::Open(filled), answer)
-        }
-        Form::None => (Form::None, Answer::OutOfTurn),
-        Form::Closed(held) => (Form::Closed(held), Answer::OutOfTurn),
-    }
-}
-
-// Closes an open form.
+// Closes an open form. No function with the reopening: what they would share is the two arms that name the states the other way round.
 fn close_turn<L: TypeLibrary>(
     dictionary: &[u8],
     library: &L,
@@ -161,8 +72,7 @@ fn close_turn<L: TypeLibrary>(
             Ok(closed) => (Form::Closed(closed), Answer::Accepted),
             Err((open, e)) => (Form::Open(open), Answer::Refused(e)),
         },
-        Form::None => (Form::None, Answer::OutOfTurn),
-        Form::Closed(held) => (Form::Closed(held), Answer::OutOfTurn),
+        other => (other, Answer::OutOfTurn),
     }
 }
 
@@ -180,8 +90,7 @@ fn reopen_turn<L: TypeLibrary>(
             Ok(open) => (Form::Open(open), Answer::Accepted),
             Err((closed, e)) => (Form::Closed(closed), Answer::Refused(e)),
         },
-        Form::None => (Form::None, Answer::OutOfTurn),
-        Form::Open(held) => (Form::Open(held), Answer::OutOfTurn),
+        other => (other, Answer::OutOfTurn),
     }
 }
 
@@ -206,21 +115,31 @@ fn turn<L: TypeLibrary>(
             entry,
             tag,
             value,
-        } => set_turn(dictionary, library, buffer, form, group, entry, tag, value),
-        Call::Clear { group, entry, tag } => {
-            clear_turn(dictionary, library, buffer, form, group, entry, tag)
+        } => {
+            // The value borrows, so the closure has to say what it does.
+            let set = |held: &mut OpenForm, buffer: &mut [u8]| -> Result<(), Refusal>
+                ensures { Fills (L.known library.entry.now) (dictionary_of dictionary.entry.now) (filling (L.known library.entry.now) dictionary.entry.now (by_buffer (L.known library.entry.now) dictionary.entry.now buffer.old) (length buffer.old) (form_numbers held.old) (set group entry tag (meaning value.entry))) result held.old held.new buffer.old buffer.new }
+            { held.set(dictionary, library, buffer, group, entry, tag, value) };
+            fill_turn(buffer, form, set)
         }
-        Call::Append { group } => append_turn(dictionary, library, buffer, form, group),
-        Call::Drop { group } => drop_turn(dictionary, library, buffer, form, group),
-        Call::Write { tag, content } => {
-            write_turn(dictionary, library, buffer, form, tag, content)
-        }
+        Call::Clear { group, entry, tag } => fill_turn(buffer, form, |held, buffer| {
+            held.clear(dictionary, library, buffer, group, entry, tag)
+        }),
+        Call::Append { group } => fill_turn(buffer, form, |held, buffer| {
+            held.append(dictionary, library, buffer, group)
+        }),
+        Call::Drop { group } => fill_turn(buffer, form, |held, buffer| {
+            held.drop(dictionary, library, buffer, group)
+        }),
+        Call::Write { tag, content } => fill_turn(buffer, form, |held, buffer| {
+            held.write(dictionary, library, buffer, tag, content)
+        }),
         Call::Close => close_turn(dictionary, library, buffer, form),
         Call::Reopen => reopen_turn(dictionary, library, buffer, form),
     }
 }
 
-// Makes the calls one after another, as many as there are answers for, and gives the form back that they leave.
+// Makes the calls one after another, as many as there are answers for, and gives the form back that they leave. A rule of the project: the caller lends calls and answers apart.
 pub fn run<L: TypeLibrary>(
     dictionary: &[u8],
     library: &L,
@@ -236,12 +155,33 @@ pub fn run<L: TypeLibrary>(
 {
     seen(buffer);
     let mut held = form;
-    let mut i = 0;
-    while i < calls.len() && i < answers.len() {
+    // By index: after a zip with iter_mut a proof knows no element of the answers.
+    for i in 0..calls.len().min(answers.len()) {
         let (next, answer) = turn(dictionary, library, buffer, held, calls[i]);
         held = next;
         answers[i] = answer;
-        i += 1;
     }
     held
+}
+
+// Makes one call, and gives the form back that it leaves, with the answer.
+pub fn make<L: TypeLibrary>(
+    dictionary: &[u8],
+    library: &L,
+    buffer: &mut [u8],
+    form: Form,
+    call: Call<'_>,
+) -> (Form, Answer)
+    ensures { Turned (L.known library.now) dictionary.now (shown_form form) buffer.old (shown_call call.entry) result.0 result.1 buffer.new }
+{
+    let mut answers = [Answer::OutOfTurn];
+    let left = run(
+        dictionary,
+        library,
+        buffer,
+        form,
+        slice::from_ref(&call),
+        &mut answers,
+    );
+    (left, answers[0])
 }

@@ -1,9 +1,10 @@
-use Rattle.std.proofs.Common.{length, sym, subst}
+use Rattle.std.proofs.Common.{length, sym, ap, subst}
 use Rattle.std.proofs.lemmas.Result.{err_from_is_err_and}
 use Rattle.schema.specs.Reading.{dictionary_of}
 use Rattle.calls.specs.Calls.{opening}
 use Rattle.steps.specs.Steps.{Leaves, open_step}
 use Rattle.steps.proofs.Opening.{opens, opened_same}
+use Rattle.filling.specs.Shown.{plain_numbers}
 use Rattle.form.specs.Forms.{Opens}
 use Rattle.form.proofs.Filled.{not_opened, opened}
 use Rattle.form.proofs.open.OpenForm.open.Goals as goal
@@ -25,4 +26,4 @@ returns g c =
     let buffer = c.args.buffer.now in
     let is = opens known (g.met.L.TypeLibrary.lawful c.args.library.now) s buffer c.args.template c.args.version in
     let left = subst (λ r. Leaves (open_step known s buffer c.args.template c.args.version) r buffer c.open_frame.new.buffer) c.in_ok-length.was c.open_frame.ensures in
-    opened known s buffer c.args.template c.args.version is (opened_same known s buffer c.args.template c.args.version) c.in_ok-length.length c.open_frame.new.buffer left
+    opened known s buffer c.args.template c.args.version is (opened_same known s buffer c.args.template c.args.version) c.in_ok-length.length c.of.result c.open_frame.new.buffer (ap plain_numbers c.of.ensures) left
