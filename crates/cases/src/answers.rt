@@ -1,37 +1,9 @@
 // A line for each question to a library or the cutter.
-use crate::shown::{Hex, Meant, Refused};
+use crate::shown::{Meant, Read, Refused, Written};
+use printing::Hex;
 use std::io;
 use types::{Pattern, TypeLibrary, Value};
 use wire::{Piece, Refusal, cut};
-
-// What is read: a value, absent or a refusal.
-fn print_meant(rt: &HostRuntime, answer: Result<Option<Value<'_>>, Refusal>) -> io::Result<()> {
-    match answer {
-        Ok(Some(value)) => {
-            let value = Meant(value);
-            print!(rt; "{value}")
-        }
-        Ok(None) => print!(rt; "absent"),
-        Err(refusal) => {
-            let refusal = Refused(refusal);
-            print!(rt; "{refusal}")
-        }
-    }
-}
-
-// A pattern or a refusal.
-fn print_pattern(rt: &HostRuntime, answer: Result<Pattern, Refusal>) -> io::Result<()> {
-    match answer {
-        Ok(pattern) => {
-            let bytes = Hex(pattern.as_bytes());
-            print!(rt; "{bytes}")
-        }
-        Err(refusal) => {
-            let refusal = Refused(refusal);
-            print!(rt; "{refusal}")
-        }
-    }
-}
 
 // A pattern and what it reads as, or a refusal.
 fn print_read_back<L: TypeLibrary>(
@@ -41,13 +13,17 @@ fn print_read_back<L: TypeLibrary>(
     argument: &[u8],
     answer: Result<Pattern, Refusal>,
 ) -> io::Result<()> {
-    print_pattern(rt, answer)?;
+    print!(rt; "{}", Written(answer))?;
     if let Ok(pattern) = answer {
-        print!(rt; " ")?;
-        print_meant(rt, library.read(number, argument, pattern.as_bytes()))?;
+        print!(rt;
+            " {}",
+            Read(library.read(number, argument, pattern.as_bytes()))
+        )?;
     }
     println!(rt; "")
 }
+
+// Number and argument are passed on as the calls of a library take them.
 
 // What is read from bytes.
 pub(crate) fn show_read<L: TypeLibrary>(
@@ -57,11 +33,8 @@ pub(crate) fn show_read<L: TypeLibrary>(
     argument: &[u8],
     bytes: &[u8],
 ) -> io::Result<()> {
-    let of = Hex(argument);
-    let from = Hex(bytes);
-    print!(rt; "read {number} {of} {from} ")?;
-    print_meant(rt, library.read(number, argument, bytes))?;
-    println!(rt; "")
+    let read = Read(library.read(number, argument, bytes));
+    println!(rt; "read {number} {} {} {read}", Hex(argument), Hex(bytes))
 }
 
 // The pattern of a value, and what it reads as.
@@ -72,9 +45,7 @@ pub(crate) fn show_write<L: TypeLibrary>(
     argument: &[u8],
     value: Value<'_>,
 ) -> io::Result<()> {
-    let of = Hex(argument);
-    let shown = Meant(value);
-    print!(rt; "write {number} {of} {shown} ")?;
+    print!(rt; "write {number} {} {} ", Hex(argument), Meant(value))?;
     let answer = library.write(number, argument, value);
     print_read_back(rt, library, number, argument, answer)
 }
@@ -86,13 +57,10 @@ fn show_unknown<L: TypeLibrary>(
     number: u8,
     argument: &[u8],
 ) -> io::Result<()> {
-    print!(rt; ", ")?;
-    print_pattern(rt, library.blank(number, argument))?;
-    print!(rt; ", ")?;
-    print_meant(rt, library.read(number, argument, &[0]))?;
-    print!(rt; ", ")?;
-    print_pattern(rt, library.write(number, argument, Value::unsigned(0)))?;
-    println!(rt; "")
+    let blank = Written(library.blank(number, argument));
+    let read = Read(library.read(number, argument, &[0]));
+    let write = Written(library.write(number, argument, Value::unsigned(0)));
+    println!(rt; ", {blank}, {read}, {write}")
 }
 
 // The width and the blank of a type, and what the blank reads as; or the refusals of all four calls.
@@ -103,8 +71,7 @@ pub(crate) fn show_type<L: TypeLibrary>(
     number: u8,
     argument: &[u8],
 ) -> io::Result<()> {
-    let of = Hex(argument);
-    print!(rt; "{name} {number} {of} ")?;
+    print!(rt; "{name} {number} {} ", Hex(argument))?;
     match library.width(number, argument) {
         Ok(width) => {
             print!(rt; "width {width} blank ")?;
@@ -112,8 +79,7 @@ pub(crate) fn show_type<L: TypeLibrary>(
             print_read_back(rt, library, number, argument, answer)
         }
         Err(refusal) => {
-            let refusal = Refused(refusal);
-            print!(rt; "{refusal}")?;
+            print!(rt; "{}", Refused(refusal))?;
             show_unknown(rt, library, number, argument)
         }
     }
@@ -125,31 +91,20 @@ pub(crate) fn show_cut(rt: &HostRuntime, stream: &[u8]) -> io::Result<()> {
     match cut(stream) {
         Ok(Piece::Missing(count)) => println!(rt; "cut {bytes} missing {count}"),
         Ok(Piece::Frame { frame, rest }) => {
-            let frame = Hex(frame);
-            let rest = Hex(rest);
-            println!(rt; "cut {bytes} frame {frame} rest {rest}")
+            println!(rt; "cut {bytes} frame {} rest {}", Hex(frame), Hex(rest))
         }
-        Err(refusal) => {
-            let refusal = Refused(refusal);
-            println!(rt; "cut {bytes} {refusal}")
-        }
+        Err(refusal) => println!(rt; "cut {bytes} {}", Refused(refusal)),
     }
 }
 
 // What is cut off a stream whose first frame has the length, by lengths alone.
 pub(crate) fn show_long_cut(rt: &HostRuntime, stream: &[u8], length: usize) -> io::Result<()> {
-    let count = stream.len();
-    print!(rt; "cut {count} of {length} ")?;
+    print!(rt; "cut {} of {length} ", stream.len())?;
     match cut(stream) {
         Ok(Piece::Missing(count)) => println!(rt; "missing {count}"),
         Ok(Piece::Frame { frame, rest }) => {
-            let frame = frame.len();
-            let rest = rest.len();
-            println!(rt; "frame {frame} rest {rest}")
+            println!(rt; "frame {} rest {}", frame.len(), rest.len())
         }
-        Err(refusal) => {
-            let refusal = Refused(refusal);
-            println!(rt; "{refusal}")
-        }
+        Err(refusal) => println!(rt; "{}", Refused(refusal)),
     }
 }

@@ -60,35 +60,75 @@ const DECIMAL_MARKS: Marks = Marks {
     top: &[0, 0, 0, 0, 0, 0, 0, 128],
 };
 
-const BYTE_ENDS: [u64; 5] = [0, 1, 254, 255, 256];
-
-const TWO_BYTE_ENDS: [u64; 5] = [0, 1, 65534, 65535, 65536];
-
-const FOUR_BYTE_ENDS: [u64; 5] = [0, 1, 4294967294, 4294967295, 4294967296];
-
-const EIGHT_BYTE_ENDS: [u64; 4] = [0, 1, 18446744073709551614, 18446744073709551615];
-
-const SIGNED_FOUR_BYTE_ENDS: [i64; 9] = [
-    -2147483649,
-    -2147483648,
-    -2147483647,
-    -1,
-    0,
-    1,
-    2147483646,
-    2147483647,
-    2147483648,
+const BYTE_ENDS: [Value<'static>; 5] = [
+    Value::Unsigned(0),
+    Value::Unsigned(1),
+    Value::Unsigned(254),
+    Value::Unsigned(255),
+    Value::Unsigned(256),
 ];
 
-const SIGNED_EIGHT_BYTE_ENDS: [i64; 7] = [
-    -9223372036854775808,
-    -9223372036854775807,
-    -1,
-    0,
-    1,
-    9223372036854775806,
-    9223372036854775807,
+const TWO_BYTE_ENDS: [Value<'static>; 5] = [
+    Value::Unsigned(0),
+    Value::Unsigned(1),
+    Value::Unsigned(65534),
+    Value::Unsigned(65535),
+    Value::Unsigned(65536),
 ];
+
+const FOUR_BYTE_ENDS: [Value<'static>; 5] = [
+    Value::Unsigned(0),
+    Value::Unsigned(1),
+    Value::Unsigned(4294967294),
+    Value::Unsigned(4294967295),
+    Value::Unsigned(4294967296),
+];
+
+const EIGHT_BYTE_ENDS: [Value<'static>; 4] = [
+    Value::Unsigned(0),
+    Value::Unsigned(1),
+    Value::Unsigned(18446744073709551614),
+    Value::Unsigned(18446744073709551615),
+];
+
+const SIGNED_FOUR_BYTE_ENDS: [Value<'static>; 9] = [
+    Value::Signed(-2147483649),
+    Value::Signed(-2147483648),
+    Value::Signed(-2147483647),
+    Value::Signed(-1),
+    Value::Signed(0),
+    Value::Signed(1),
+    Value::Signed(2147483646),
+    Value::Signed(2147483647),
+    Value::Signed(2147483648),
+];
+
+const SIGNED_EIGHT_BYTE_ENDS: [Value<'static>; 7] = [
+    Value::Signed(-9223372036854775808),
+    Value::Signed(-9223372036854775807),
+    Value::Signed(-1),
+    Value::Signed(0),
+    Value::Signed(1),
+    Value::Signed(9223372036854775806),
+    Value::Signed(9223372036854775807),
+];
+
+const DECIMAL_ENDS: [Value<'static>; 7] = [
+    Value::Decimal(-9223372036854775808, 2),
+    Value::Decimal(-9223372036854775807, 2),
+    Value::Decimal(-1, 2),
+    Value::Decimal(0, 2),
+    Value::Decimal(1, 2),
+    Value::Decimal(9223372036854775806, 2),
+    Value::Decimal(9223372036854775807, 2),
+];
+
+// The arguments of a type, one for each absent rule; of a decimal type two decimals behind it.
+const UNSIGNED_RULES: [&[u8]; 3] = [&[0], &[1], &[2]];
+
+const SIGNED_RULES: [&[u8]; 4] = [&[0], &[1], &[2], &[3]];
+
+const DECIMAL_RULES: [&[u8]; 4] = [&[0, 2], &[1, 2], &[2, 2], &[3, 2]];
 
 // What the three patterns mean.
 fn show_marks<L: TypeLibrary>(
@@ -102,64 +142,40 @@ fn show_marks<L: TypeLibrary>(
     show_read(rt, library, marks.number, argument, marks.top)
 }
 
-// The patterns at the first rules.
+// The patterns at types of their number: one for each argument.
 fn show_rules<L: TypeLibrary>(
     rt: &HostRuntime,
     library: &L,
     marks: &Marks,
-    rules: u8,
+    arguments: &[&'static [u8]],
 ) -> io::Result<()> {
-    for rule in 0..rules {
-        show_marks(rt, library, marks, &[rule])?;
+    for argument in arguments {
+        show_marks(rt, library, marks, *argument)?;
     }
     Ok(())
 }
 
 fn every_mark<L: TypeLibrary>(rt: &HostRuntime, library: &L) -> io::Result<()> {
     for marks in &UNSIGNED_MARKS {
-        show_rules(rt, library, marks, 3)?;
+        show_rules(rt, library, marks, &UNSIGNED_RULES)?;
     }
     for marks in &SIGNED_MARKS {
-        show_rules(rt, library, marks, 4)?;
+        show_rules(rt, library, marks, &SIGNED_RULES)?;
     }
-    for rule in 0..4u8 {
-        show_marks(rt, library, &DECIMAL_MARKS, &[rule, 2])?;
-    }
-    Ok(())
+    show_rules(rt, library, &DECIMAL_MARKS, &DECIMAL_RULES)
 }
 
-fn unsigned<L: TypeLibrary>(
+// The values at the ends of a range, each written at types of one number: one for each argument.
+fn ends<L: TypeLibrary>(
     rt: &HostRuntime,
     library: &L,
     number: u8,
-    ends: &[u64],
+    arguments: &[&'static [u8]],
+    values: &[Value<'static>],
 ) -> io::Result<()> {
-    for rule in 0..3u8 {
-        for n in ends {
-            show_write(rt, library, number, &[rule], Value::unsigned(*n))?;
-        }
-    }
-    Ok(())
-}
-
-fn signed<L: TypeLibrary>(
-    rt: &HostRuntime,
-    library: &L,
-    number: u8,
-    ends: &[i64],
-) -> io::Result<()> {
-    for rule in 0..4u8 {
-        for n in ends {
-            show_write(rt, library, number, &[rule], Value::signed(*n))?;
-        }
-    }
-    Ok(())
-}
-
-fn decimal<L: TypeLibrary>(rt: &HostRuntime, library: &L, ends: &[i64]) -> io::Result<()> {
-    for rule in 0..4u8 {
-        for n in ends {
-            show_write(rt, library, 8, &[rule, 2], Value::decimal(*n, 2))?;
+    for argument in arguments {
+        for value in values {
+            show_write(rt, library, number, *argument, *value)?;
         }
     }
     Ok(())
@@ -167,11 +183,11 @@ fn decimal<L: TypeLibrary>(rt: &HostRuntime, library: &L, ends: &[i64]) -> io::R
 
 pub(crate) fn run<L: TypeLibrary>(rt: &HostRuntime, library: &L) -> io::Result<()> {
     every_mark(rt, library)?;
-    unsigned(rt, library, 1, &BYTE_ENDS)?;
-    unsigned(rt, library, 2, &TWO_BYTE_ENDS)?;
-    unsigned(rt, library, 3, &FOUR_BYTE_ENDS)?;
-    unsigned(rt, library, 4, &EIGHT_BYTE_ENDS)?;
-    signed(rt, library, 5, &SIGNED_FOUR_BYTE_ENDS)?;
-    signed(rt, library, 6, &SIGNED_EIGHT_BYTE_ENDS)?;
-    decimal(rt, library, &SIGNED_EIGHT_BYTE_ENDS)
+    ends(rt, library, 1, &UNSIGNED_RULES, &BYTE_ENDS)?;
+    ends(rt, library, 2, &UNSIGNED_RULES, &TWO_BYTE_ENDS)?;
+    ends(rt, library, 3, &UNSIGNED_RULES, &FOUR_BYTE_ENDS)?;
+    ends(rt, library, 4, &UNSIGNED_RULES, &EIGHT_BYTE_ENDS)?;
+    ends(rt, library, 5, &SIGNED_RULES, &SIGNED_FOUR_BYTE_ENDS)?;
+    ends(rt, library, 6, &SIGNED_RULES, &SIGNED_EIGHT_BYTE_ENDS)?;
+    ends(rt, library, 8, &DECIMAL_RULES, &DECIMAL_ENDS)
 }

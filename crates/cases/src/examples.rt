@@ -4,7 +4,7 @@ use crate::known::{CODES_32, CODES_33};
 use std::io;
 use types::{TypeLibrary, Value};
 
-// A type by number and argument.
+// A type by number and argument. The rows of the tables are tuples: with named fields each would take five lines.
 type Type = (u8, &'static [u8]);
 
 // The number and the argument of a type, and bytes to read.

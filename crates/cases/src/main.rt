@@ -8,20 +8,12 @@ mod known;
 mod shown;
 mod streams;
 
-use numbers::Numbers;
-use text::Texts;
-use types::Joined;
-
-// The number types and then the text types.
-const LIBRARY: Joined<Numbers, Texts> = Joined {
-    left: Numbers,
-    right: Texts,
-};
+use base::BASE;
 
 fn run(rt: &HostRuntime) -> anyhow::Result<()> {
-    known::run(rt, &LIBRARY)?;
-    ends::run(rt, &LIBRARY)?;
-    examples::run(rt, &LIBRARY)?;
+    known::run(rt, &BASE)?;
+    ends::run(rt, &BASE)?;
+    examples::run(rt, &BASE)?;
     streams::run(rt)
 }
 

@@ -1,23 +1,8 @@
 // How bytes, values and refusals are shown.
+use printing::{Hex, Plain};
 use std::fmt;
-use types::Value;
+use types::{Pattern, Value};
 use wire::Refusal;
-
-// Bytes in hexadecimal; a dash for none.
-#[derive(Clone, Copy)]
-pub(crate) struct Hex<'a>(pub &'a [u8]);
-
-impl fmt::Display for Hex<'_> {
-    fn fmt<W: fmt::Write>(&self, f: &mut fmt::Formatter<W>) -> fmt::Result {
-        if self.0.is_empty() {
-            return write!(f, "-");
-        }
-        for b in self.0 {
-            write!(f, "{b:02X}")?;
-        }
-        Ok(())
-    }
-}
 
 // A value of a kind that can be told from the others.
 #[derive(Clone, Copy)]
@@ -26,20 +11,9 @@ pub(crate) struct Meant<'a>(pub Value<'a>);
 impl fmt::Display for Meant<'_> {
     fn fmt<W: fmt::Write>(&self, f: &mut fmt::Formatter<W>) -> fmt::Result {
         match self.0 {
-            Value::Unsigned(n) => write!(f, "{n}"),
-            Value::Signed(n) => {
-                if n < 0 {
-                    write!(f, "{n}")
-                } else {
-                    write!(f, "+{n}")
-                }
-            }
-            Value::Decimal(mantissa, decimals) => write!(f, "{mantissa}e-{decimals}"),
-            Value::Text(characters) => {
-                let hex = Hex(characters);
-                write!(f, "text {hex}")
-            }
-            Value::Investor((prefix, document)) => write!(f, "{prefix}/{document}"),
+            Value::Signed(n) => write!(f, "{n:+}"),
+            Value::Text(characters) => write!(f, "text {}", Hex(characters)),
+            value => write!(f, "{}", Plain(value)),
         }
     }
 }
@@ -50,10 +24,8 @@ pub(crate) struct Refused(pub Refusal);
 
 impl fmt::Display for Refused {
     fn fmt<W: fmt::Write>(&self, f: &mut fmt::Formatter<W>) -> fmt::Result {
-        let number = self.0.reason.number();
-        let place = self.0.place;
-        let tag = self.0.tag;
-        write!(f, "refused {number}")?;
+        let Refusal { reason, place, tag } = self.0;
+        write!(f, "refused {}", reason.number())?;
         if place > 0 {
             write!(f, " at {place}")?;
         }
@@ -61,5 +33,32 @@ impl fmt::Display for Refused {
             write!(f, " tag {tag}")?;
         }
         Ok(())
+    }
+}
+
+// What is read: a value, absent or a refusal.
+#[derive(Clone, Copy)]
+pub(crate) struct Read<'a>(pub Result<Option<Value<'a>>, Refusal>);
+
+impl fmt::Display for Read<'_> {
+    fn fmt<W: fmt::Write>(&self, f: &mut fmt::Formatter<W>) -> fmt::Result {
+        match self.0 {
+            Ok(Some(value)) => write!(f, "{}", Meant(value)),
+            Ok(None) => f.write_str("absent"),
+            Err(refusal) => write!(f, "{}", Refused(refusal)),
+        }
+    }
+}
+
+// A pattern or a refusal.
+#[derive(Clone, Copy)]
+pub(crate) struct Written(pub Result<Pattern, Refusal>);
+
+impl fmt::Display for Written {
+    fn fmt<W: fmt::Write>(&self, f: &mut fmt::Formatter<W>) -> fmt::Result {
+        match self.0 {
+            Ok(pattern) => write!(f, "{}", Hex(pattern.as_bytes())),
+            Err(refusal) => write!(f, "{}", Refused(refusal)),
+        }
     }
 }

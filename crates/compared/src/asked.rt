@@ -1,4 +1,4 @@
-// A list of calls in bytes.
+// A list of calls in bytes. Their kinds and those of values are numbers there, since they come from another program.
 ghost use Rattle.std.specs.Prelude.{◌≤◌, length};
 
 use crate::taken::Taken;
@@ -12,130 +12,79 @@ pub enum Asked<'a> {
     Poke { place: u16, byte: u8 },
 }
 
-// A number in two's complement.
-fn signed(n: u64) -> i64 {
-    if n < 9223372036854775808 {
-        n as i64
-    } else {
-        -1 - ((18446744073709551615 - n) as i64)
-    }
-}
-
 // A value: its kind, and what that holds.
 fn value<'a>(from: &mut Taken<'a>) -> Option<Value<'a>>
     ensures { length from.new.rest.now ≤ length from.old.rest.now }
 {
-    match from.byte() {
-        Some(1) => match from.eight() {
-            Some(n) => Some(Value::unsigned(n)),
-            None => None,
-        },
-        Some(2) => match from.eight() {
-            Some(n) => Some(Value::signed(signed(n))),
-            None => None,
-        },
-        Some(3) => match (from.eight(), from.byte()) {
-            (Some(n), Some(decimals)) => Some(Value::decimal(signed(n), decimals)),
-            _ => None,
-        },
-        Some(4) => match from.bytes() {
-            Some(characters) => Some(Value::text(characters)),
-            None => None,
-        },
-        Some(5) => match (from.two(), from.four()) {
-            (Some(prefix), Some(document)) => Some(Value::investor((prefix, document))),
-            _ => None,
-        },
+    match u8::from_le_bytes(from.array()?) {
+        1 => Some(Value::Unsigned(u64::from_le_bytes(from.array()?))),
+        2 => Some(Value::Signed(i64::from_le_bytes(from.array()?))),
+        3 => {
+            let mantissa = i64::from_le_bytes(from.array()?);
+            let decimals = u8::from_le_bytes(from.array()?);
+            Some(Value::Decimal(mantissa, decimals))
+        }
+        4 => Some(Value::Text(from.bytes()?)),
+        5 => {
+            let prefix = u16::from_le_bytes(from.array()?);
+            let document = u32::from_le_bytes(from.array()?);
+            Some(Value::Investor((prefix, document)))
+        }
         _ => None,
     }
 }
 
-fn open<'a>(from: &mut Taken<'a>) -> Option<Asked<'a>>
-    ensures { length from.new.rest.now ≤ length from.old.rest.now }
-{
-    match (from.two(), from.two()) {
-        (Some(template), Some(version)) => Some(Asked::Call(Call::Open { template, version })),
-        _ => None,
-    }
-}
-
-fn set<'a>(from: &mut Taken<'a>) -> Option<Asked<'a>>
-    ensures { length from.new.rest.now ≤ length from.old.rest.now }
-{
-    match (from.four(), from.eight(), from.four(), value(from)) {
-        (Some(group), Some(entry), Some(tag), Some(value)) => Some(Asked::Call(Call::Set {
-            group,
-            entry: entry as usize,
-            tag,
-            value,
-        })),
-        _ => None,
-    }
-}
-
-fn clear<'a>(from: &mut Taken<'a>) -> Option<Asked<'a>>
-    ensures { length from.new.rest.now ≤ length from.old.rest.now }
-{
-    match (from.four(), from.eight(), from.four()) {
-        (Some(group), Some(entry), Some(tag)) => Some(Asked::Call(Call::Clear {
-            group,
-            entry: entry as usize,
-            tag,
-        })),
-        _ => None,
-    }
-}
-
-fn append<'a>(from: &mut Taken<'a>) -> Option<Asked<'a>>
-    ensures { length from.new.rest.now ≤ length from.old.rest.now }
-{
-    match from.four() {
-        Some(group) => Some(Asked::Call(Call::Append { group })),
-        None => None,
-    }
-}
-
-fn drop_last<'a>(from: &mut Taken<'a>) -> Option<Asked<'a>>
-    ensures { length from.new.rest.now ≤ length from.old.rest.now }
-{
-    match from.four() {
-        Some(group) => Some(Asked::Call(Call::Drop { group })),
-        None => None,
-    }
-}
-
-fn write<'a>(from: &mut Taken<'a>) -> Option<Asked<'a>>
-    ensures { length from.new.rest.now ≤ length from.old.rest.now }
-{
-    match (from.four(), from.bytes()) {
-        (Some(tag), Some(content)) => Some(Asked::Call(Call::Write { tag, content })),
-        _ => None,
-    }
-}
-
-fn poke<'a>(from: &mut Taken<'a>) -> Option<Asked<'a>>
-    ensures { length from.new.rest.now ≤ length from.old.rest.now }
-{
-    match (from.two(), from.byte()) {
-        (Some(place), Some(byte)) => Some(Asked::Poke { place, byte }),
-        _ => None,
-    }
-}
-
-// What stands behind the number of a call.
-pub fn behind<'a>(number: u8, from: &mut Taken<'a>) -> Option<Asked<'a>>
+// The call of a number: what stands behind that.
+fn call<'a>(number: u8, from: &mut Taken<'a>) -> Option<Call<'a>>
     ensures { length from.new.rest.now ≤ length from.old.rest.now }
 {
     match number {
-        1 => open(from),
-        2 => set(from),
-        3 => clear(from),
-        4 => append(from),
-        5 => drop_last(from),
-        6 => write(from),
-        7 => Some(Asked::Call(Call::Close)),
-        8 => Some(Asked::Call(Call::Reopen)),
-        9 => poke(from),
+        1 => Some(Call::Open {
+            template: u16::from_le_bytes(from.array()?),
+            version: u16::from_le_bytes(from.array()?),
+        }),
+        2 => Some(Call::Set {
+            group: u32::from_le_bytes(from.array()?),
+            entry: usize::from_le_bytes(from.array()?),
+            tag: u32::from_le_bytes(from.array()?),
+            value: value(from)?,
+        }),
+        3 => Some(Call::Clear {
+            group: u32::from_le_bytes(from.array()?),
+            entry: usize::from_le_bytes(from.array()?),
+            tag: u32::from_le_bytes(from.array()?),
+        }),
+        4 => Some(Call::Append {
+            group: u32::from_le_bytes(from.array()?),
+        }),
+        5 => Some(Call::Drop {
+            group: u32::from_le_bytes(from.array()?),
+        }),
+        6 => Some(Call::Write {
+            tag: u32::from_le_bytes(from.array()?),
+            content: from.bytes()?,
+        }),
+        7 => Some(Call::Close),
+        8 => Some(Call::Reopen),
         _ => None,
+    }
+}
+
+// A byte and the place where it is put.
+fn poke<'a>(from: &mut Taken<'a>) -> Option<Asked<'a>>
+    ensures { length from.new.rest.now ≤ length from.old.rest.now }
+{
+    let place = u16::from_le_bytes(from.array()?);
+    let byte = u8::from_le_bytes(from.array()?);
+    Some(Asked::Poke { place, byte })
+}
+
+// What is asked next: its number, and what stands behind that.
+pub fn next_asked<'a>(from: &mut Taken<'a>) -> Option<Asked<'a>>
+    ensures { length from.new.rest.now ≤ length from.old.rest.now }
+{
+    match u8::from_le_bytes(from.array()?) {
+        9 => poke(from),
+        number => Some(Asked::Call(call(number, from)?)),
     }
 }

@@ -1,7 +1,5 @@
-// Numbers and bytes taken one after the other from the front of bytes.
+// Bytes taken one after the other from the front of bytes.
 ghost use Rattle.std.specs.Prelude.{◌≤◌, length};
-
-use wire::{beyond, le_read, upto};
 
 // What is still to be taken.
 #[derive(Clone, Copy)]
@@ -10,63 +8,21 @@ pub struct Taken<'a> {
 }
 
 impl<'a> Taken<'a> {
-    // A byte.
-    pub fn byte(&mut self) -> Option<u8>
+    // As many bytes as the array has.
+    pub fn array<const W: usize>(&mut self) -> Option<[u8; W]>
         ensures { length self.new.rest.now ≤ length self.old.rest.now }
     {
-        if self.rest.len() < 1 {
-            return None;
-        }
-        let n = le_read(upto(self.rest, 1)) as u8;
-        self.rest = beyond(self.rest, 1);
-        Some(n)
-    }
-
-    // A number of two bytes.
-    pub fn two(&mut self) -> Option<u16>
-        ensures { length self.new.rest.now ≤ length self.old.rest.now }
-    {
-        if self.rest.len() < 2 {
-            return None;
-        }
-        let n = le_read(upto(self.rest, 2)) as u16;
-        self.rest = beyond(self.rest, 2);
-        Some(n)
-    }
-
-    // A number of four bytes.
-    pub fn four(&mut self) -> Option<u32>
-        ensures { length self.new.rest.now ≤ length self.old.rest.now }
-    {
-        if self.rest.len() < 4 {
-            return None;
-        }
-        let n = le_read(upto(self.rest, 4)) as u32;
-        self.rest = beyond(self.rest, 4);
-        Some(n)
-    }
-
-    // A number of eight bytes.
-    pub fn eight(&mut self) -> Option<u64>
-        ensures { length self.new.rest.now ≤ length self.old.rest.now }
-    {
-        if self.rest.len() < 8 {
-            return None;
-        }
-        let n = le_read(upto(self.rest, 8));
-        self.rest = beyond(self.rest, 8);
-        Some(n)
+        let (found, rest) = self.rest.split_first_chunk()?;
+        self.rest = rest;
+        Some(*found)
     }
 
     // So many bytes.
     pub fn part(&mut self, count: usize) -> Option<&'a [u8]>
         ensures { length self.new.rest.now ≤ length self.old.rest.now }
     {
-        if self.rest.len() < count {
-            return None;
-        }
-        let found = upto(self.rest, count);
-        self.rest = beyond(self.rest, count);
+        let (found, rest) = self.rest.split_at_checked(count)?;
+        self.rest = rest;
         Some(found)
     }
 
@@ -74,9 +30,7 @@ impl<'a> Taken<'a> {
     pub fn bytes(&mut self) -> Option<&'a [u8]>
         ensures { length self.new.rest.now ≤ length self.old.rest.now }
     {
-        match self.two() {
-            Some(n) => self.part(n as usize),
-            None => None,
-        }
+        let count = u16::from_le_bytes(self.array()?);
+        self.part(count as usize)
     }
 }

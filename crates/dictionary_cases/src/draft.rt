@@ -4,7 +4,7 @@ use std::alloc::{AllocError, Global};
 // The schema version of every dictionary that is drafted.
 pub const VERSION: u16 = 6;
 
-// A line, or bytes that stand where a line is due.
+// A line, or bytes that stand where a line is due. The tables of cases write a line in a row: with named fields each would take five.
 #[derive(Clone, Copy)]
 pub enum Line {
     // Tag, offset and since of an optional field of one byte: type 1 without absent.
@@ -34,7 +34,7 @@ fn two_bytes(length: usize) -> [u8; 2] {
     u16::try_from(length).unwrap_or(u16::MAX).to_be_bytes()
 }
 
-// A field line: tag, offset, since, type and presence, argument.
+// A field line: tag, offset, since, type and presence, argument. It is no line of the library's, which the check is to read from these bytes.
 fn put_field(
     bytes: &mut Vec<u8>,
     tag: u32,

@@ -267,6 +267,7 @@ fn one(rt: &HostRuntime, label: &str, size: u16, body: &[u8]) -> anyhow::Result<
     report::bytes(rt, label, made.as_slice())
 }
 
+// Each of these puts other lines; what they share is the dictionary of one template.
 fn root_fields(rt: &HostRuntime, label: &str, count: u16) -> anyhow::Result<()> {
     let mut body = Vec::new(rt.alloc());
     put_fields(&mut body, count)?;

@@ -1,25 +1,14 @@
 // What the check answers for a dictionary, as a line.
 use crate::draft::{Case, bytes_of};
 use crate::worked::{Changed, bytes_after};
+use base::BASE;
 use dictionary::check;
-use numbers::Numbers;
-use text::Texts;
-use types::Joined;
 
 // Prints the label and what the check answers for the bytes: ok, or number, place and tag of the refusal.
 pub fn bytes(rt: &HostRuntime, label: &str, dictionary: &[u8]) -> anyhow::Result<()> {
-    let library = Joined {
-        left: Numbers,
-        right: Texts,
-    };
-    match check(dictionary, &library) {
+    match check(dictionary, &BASE) {
         Ok(()) => println!(rt; "{label}: ok")?,
-        Err(refusal) => {
-            let number = refusal.reason.number();
-            let place = refusal.place;
-            let tag = refusal.tag;
-            println!(rt; "{label}: {number} {place} {tag}")?
-        }
+        Err(refusal) => println!(rt; "{label}: {refusal}")?,
     }
     Ok(())
 }
@@ -33,7 +22,7 @@ pub fn cases(rt: &HostRuntime, all: &[Case]) -> anyhow::Result<()> {
     Ok(())
 }
 
-// The same for each of the changes of the worked dictionary.
+// The same for each of the changes of the worked dictionary. What the two share is a line for each case: a trait for the two kinds of case would be longer.
 pub fn changes(rt: &HostRuntime, all: &[Changed]) -> anyhow::Result<()> {
     for case in all {
         let made = bytes_after(rt.alloc(), case.1, case.2)?;

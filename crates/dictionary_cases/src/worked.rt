@@ -24,13 +24,11 @@ pub struct Changed(
 
 // The byte that a place has after the changes.
 fn byte_at(changes: &[(usize, u8)], place: usize, byte: u8) -> u8 {
-    let mut new = byte;
-    for change in changes {
-        if change.0 == place {
-            new = change.1;
-        }
-    }
-    new
+    changes
+        .iter()
+        .rev()
+        .find(|(at, _)| *at == place)
+        .map_or(byte, |(_, new)| *new)
 }
 
 // The worked dictionary after the changes, and then more bytes.

@@ -11,13 +11,14 @@ use anyhow::anyhow;
 use base::BASE;
 use dictionary::check;
 use edition::earlier_edition;
+use printing::PlaceAndNumber;
 use std::{env, fmt, fs};
 use types::TypeLibrary;
 use wire::Refusal;
 
 const USAGE: &str = "usage: editions EARLIER LATER";
 
-// What is said of two dictionaries.
+// What is said of two dictionaries. No Result: a refusal is one of the answers that are printed.
 #[derive(Clone, Copy)]
 enum Outcome {
     Earlier,
@@ -34,16 +35,8 @@ impl fmt::Display for Outcome {
         match *self {
             Outcome::Earlier => write!(f, "earlier edition"),
             Outcome::NotEarlier => write!(f, "not an earlier edition"),
-            Outcome::FirstRefused(refusal) => {
-                let number = refusal.reason.number();
-                let place = refusal.place;
-                write!(f, "D 1 {place} {number}")
-            }
-            Outcome::SecondRefused(refusal) => {
-                let number = refusal.reason.number();
-                let place = refusal.place;
-                write!(f, "D 2 {place} {number}")
-            }
+            Outcome::FirstRefused(refusal) => write!(f, "D 1 {}", PlaceAndNumber(refusal)),
+            Outcome::SecondRefused(refusal) => write!(f, "D 2 {}", PlaceAndNumber(refusal)),
         }
     }
 }
@@ -67,25 +60,15 @@ fn judge(earlier: &[u8], later: &[u8]) -> Outcome
 
 // The bytes of a file, or an error that names it.
 fn bytes_of(rt: &HostRuntime, name: &str) -> anyhow::Result<Vec<u8>> {
-    match fs::read(rt, name) {
-        Ok(bytes) => Ok(bytes),
-        Err(e) => Err(anyhow!(format!(in rt.alloc(); "{name}: {e}")?)),
-    }
+    fs::read(rt, name).try_map_err(|e| Ok(anyhow!(format!(in rt.alloc(); "{name}: {e}")?)))
 }
 
 // Reads the two files that are named, and prints what is said of them.
 fn run(rt: &HostRuntime) -> anyhow::Result<()> {
-    let mut words = env::args(rt)?;
-    let _ = words.next();
-    let Some(first) = words.next() else {
+    let words: Vec<String> = env::args(rt)?.collect(rt.alloc())?;
+    let [_, first, second] = words.as_slice() else {
         return Err(anyhow!(USAGE));
     };
-    let Some(second) = words.next() else {
-        return Err(anyhow!(USAGE));
-    };
-    if words.next().is_some() {
-        return Err(anyhow!(USAGE));
-    }
     let earlier = bytes_of(rt, first.as_str())?;
     let later = bytes_of(rt, second.as_str())?;
     let outcome = judge(earlier.as_slice(), later.as_slice());

@@ -1,10 +1,11 @@
 // What the calls answer, as lines.
-use crate::edit::number;
-use crate::shown::{Content, Hex, Refused};
+use crate::shown::Named;
 use base::BASE;
 use dictionary::check;
 use frame::{Frame, Item, Reading, Walk, accept};
 use numbers::Numbers;
+use printing::Hex;
+use std::str::FromStr;
 use text::Texts;
 use types::{Joined, TypeLibrary};
 
@@ -12,13 +13,12 @@ use types::{Joined, TypeLibrary};
 pub fn checked(rt: &HostRuntime, label: &str, dictionary: &[u8]) -> anyhow::Result<()> {
     match check(dictionary, &BASE) {
         Ok(()) => println!(rt; "check {label}: ok")?,
-        Err(refusal) => {
-            let refused = Refused(refusal);
-            println!(rt; "check {label}: {refused}")?
-        }
+        Err(refusal) => println!(rt; "check {label}: {refusal}")?,
     }
     Ok(())
 }
+
+// Dictionary and frame are passed as acceptance takes them; a case's are not those at hand.
 
 // Whether the frame is accepted.
 pub fn judged<'a>(
@@ -29,47 +29,52 @@ pub fn judged<'a>(
 ) -> anyhow::Result<()> {
     match accept(dictionary, &BASE, frame) {
         Ok(_) => println!(rt; "{label}: accepted")?,
-        Err(refusal) => {
-            let refused = Refused(refusal);
-            println!(rt; "{label}: {refused}")?
-        }
+        Err(refusal) => println!(rt; "{label}: {refusal}")?,
     }
     Ok(())
 }
 
-// What an accepted frame has at a group, an entry and a tag.
+// Where something is read: a group, an entry and a tag.
+#[derive(Clone, Copy)]
+struct Place {
+    group: u32,
+    entry: usize,
+    tag: u32,
+}
+
+// A word as a number; 0 for what is none.
+pub(crate) fn number_of<T: FromStr + Default>(word: Option<&str>) -> T
+where
+    T: Drop,
+    T::Err: Drop,
+{
+    word.and_then(|w| w.parse().ok()).unwrap_or_default()
+}
+
+// The place that words say.
+fn place_of(words: &str) -> Place {
+    let mut parts = words.split_whitespace();
+    Place {
+        group: number_of(parts.next()),
+        entry: number_of(parts.next()),
+        tag: number_of(parts.next()),
+    }
+}
+
+// What an accepted frame has at a place.
 fn read_at<L: TypeLibrary>(
     rt: &HostRuntime,
     library: &L,
     frame: Frame<'_>,
-    group: u32,
-    entry: usize,
-    tag: u32,
+    at: Place,
 ) -> anyhow::Result<()> {
-    match frame.read(library, group, entry, tag) {
+    match frame.read(library, at.group, at.entry, at.tag) {
         Ok(Reading::Absent) => println!(rt; "-")?,
-        Ok(Reading::Value(value)) => {
-            let content = Content(Some(value));
-            println!(rt; "{content}")?
-        }
-        Ok(Reading::Data(bytes)) => {
-            let hex = Hex(bytes);
-            println!(rt; "data {hex}")?
-        }
-        Err(refusal) => {
-            let refused = Refused(refusal);
-            println!(rt; "{refused}")?
-        }
+        Ok(Reading::Value(value)) => println!(rt; "{}", Named(Some(value)))?,
+        Ok(Reading::Data(bytes)) => println!(rt; "data {}", Hex(bytes))?,
+        Err(refusal) => println!(rt; "{refusal}")?,
     }
     Ok(())
-}
-
-// A tag in decimal.
-fn tag_of(word: Option<&str>) -> u32 {
-    match word {
-        Some(word) => word.parse::<u32>().unwrap_or(0),
-        None => 0,
-    }
 }
 
 // The words are group, entry and tag.
@@ -81,21 +86,13 @@ pub fn read<'a, L: TypeLibrary>(
     dictionary: &'a [u8],
     frame: &'a [u8],
 ) -> anyhow::Result<()> {
-    let mut parts = words.split_whitespace();
-    let group = tag_of(parts.next());
-    let entry = match parts.next() {
-        Some(word) => number(word),
-        None => 0,
-    };
-    let tag = tag_of(parts.next());
-    print!(rt; "{label} {group} {entry} {tag}: ")?;
+    let at = place_of(words);
+    print!(rt; "{label} {} {} {}: ", at.group, at.entry, at.tag)?;
     match accept(dictionary, &BASE, frame) {
-        Ok(accepted) => read_at(rt, library, accepted, group, entry, tag),
-        Err(_) => {
-            println!(rt; "not accepted")?;
-            Ok(())
-        }
+        Ok(accepted) => read_at(rt, library, accepted, at)?,
+        Err(_) => println!(rt; "not accepted")?,
     }
+    Ok(())
 }
 
 // An item: its place, its tag, and what it holds.
@@ -108,10 +105,7 @@ fn item(rt: &HostRuntime, item: Item<'_>) -> anyhow::Result<()> {
             argument,
             bytes,
         } => match BASE.read(number, argument, bytes) {
-            Ok(value) => {
-                let content = Content(value);
-                println!(rt; "{place} {tag} {content}")?
-            }
+            Ok(value) => println!(rt; "{place} {tag} {}", Named(value))?,
             Err(_) => println!(rt; "{place} {tag} no pattern")?,
         },
         Item::Group {
@@ -124,16 +118,13 @@ fn item(rt: &HostRuntime, item: Item<'_>) -> anyhow::Result<()> {
             place,
             tag,
             content,
-        } => {
-            let hex = Hex(content);
-            println!(rt; "{place} {tag} data {hex}")?
-        }
+        } => println!(rt; "{place} {tag} data {}", Hex(content))?,
         Item::End => println!(rt; "end")?,
     }
     Ok(())
 }
 
-// The first items that are left of a walk, as far as the end.
+// The first items that are left of a walk, as far as the end. No walk has an end by its type: a count of turns ends the loop without a proof of how many items are left.
 fn items(rt: &HostRuntime, mut walk: Walk<'_, Joined<Numbers, Texts>>) -> anyhow::Result<()> {
     for _ in 0..100 {
         let next = walk.next();
@@ -152,11 +143,11 @@ pub fn walked<'a>(
     dictionary: &'a [u8],
     frame: &'a [u8],
 ) -> anyhow::Result<()> {
-    match accept(dictionary, library, frame) {
-        Ok(accepted) => match accepted.walk(library) {
-            Ok(walk) => items(rt, walk),
-            Err(_) => Ok(()),
-        },
-        Err(_) => Ok(()),
-    }
+    let Ok(accepted) = accept(dictionary, library, frame) else {
+        return Ok(());
+    };
+    let Ok(walk) = accepted.walk(library) else {
+        return Ok(());
+    };
+    items(rt, walk)
 }

@@ -1,25 +1,19 @@
 // Bytes out of hexadecimal, and changes of bytes.
+use crate::answers::number_of;
 use std::alloc::{AllocError, Global};
 
-// A number in decimal; 0 for what is none.
-pub fn number(word: &str) -> usize {
-    word.parse::<usize>().unwrap_or(0)
+// A digit in hexadecimal; 0 for what is none.
+fn digit(c: u8) -> u8 {
+    char::from(c)
+        .to_digit(16)
+        .and_then(|n| u8::try_from(n).ok())
+        .unwrap_or(0)
 }
 
-// Puts the bytes of a word in hexadecimal.
+// Puts the bytes of a word in hexadecimal. Here what is no digit counts as 0.
 fn put_hex(bytes: &mut Vec<u8>, word: &str) -> Result<(), AllocError> {
-    let mut high = None;
-    for c in word.chars() {
-        let digit = c.to_digit(16).unwrap_or(0);
-        match high {
-            None => {
-                high = Some(digit);
-            }
-            Some(h) => {
-                bytes.push((digit.wrapping_add(16u32.wrapping_mul(h)) % 256) as u8)?;
-                high = None;
-            }
-        }
+    for pair in word.as_bytes().chunks_exact(2) {
+        bytes.push(pair.iter().fold(0, |byte, c| digit(*c) | byte << 4))?;
     }
     Ok(())
 }
@@ -34,10 +28,7 @@ pub fn bytes_of(heap: Global, words: &str) -> Result<Vec<u8>, AllocError> {
 }
 
 fn put_zeros(bytes: &mut Vec<u8>, count: usize) -> Result<(), AllocError> {
-    for _ in 0..count {
-        bytes.push(0)?;
-    }
-    Ok(())
+    bytes.resize(bytes.len().saturating_add(count), 0)
 }
 
 // Keeps the first bytes, or puts more behind them.
@@ -46,8 +37,8 @@ fn resize(bytes: &mut Vec<u8>, word: &str) -> Result<(), AllocError> {
         return put_hex(bytes, hex);
     }
     match word.split_once("=") {
-        Some(("keep", count)) => bytes.truncate(number(count)),
-        Some(("zeros", count)) => put_zeros(bytes, number(count))?,
+        Some(("keep", count)) => bytes.truncate(number_of(Some(count))),
+        Some(("zeros", count)) => put_zeros(bytes, number_of(Some(count)))?,
         _ => {}
     }
     Ok(())
@@ -69,15 +60,9 @@ fn change(bytes: &mut Vec<u8>, word: &str) {
     }
 }
 
-fn copy_of(heap: Global, bytes: &[u8]) -> Result<Vec<u8>, AllocError> {
-    let mut copy = Vec::new(heap);
-    copy.extend_from_slice(bytes)?;
-    Ok(copy)
-}
-
 // The frame after the changes: its size, then the length that it states, then single bytes.
 pub fn edited_frame(heap: Global, frame: &[u8], words: &str) -> Result<Vec<u8>, AllocError> {
-    let mut bytes = copy_of(heap, frame)?;
+    let mut bytes = frame.to_vec(heap)?;
     for word in words.split_whitespace() {
         resize(&mut bytes, word)?;
     }
@@ -96,7 +81,7 @@ pub fn edited_dictionary(
     dictionary: &[u8],
     words: &str,
 ) -> Result<Vec<u8>, AllocError> {
-    let mut bytes = copy_of(heap, dictionary)?;
+    let mut bytes = dictionary.to_vec(heap)?;
     for word in words.split_whitespace() {
         if let Some(rest) = word.strip_prefix("d") {
             resize(&mut bytes, rest)?;

@@ -31,31 +31,23 @@ fn asked(rt: &HostRuntime, bench: &Bench, label: &str, words: &str) -> anyhow::R
     let dictionary = bench.dictionary.as_slice();
     let frame = bench.frame.as_slice();
     let library = BASE;
-    if label == "check" {
-        checked(rt, words, dictionary)
-    } else if label == "read" {
-        read(rt, &library, label, words, dictionary, frame)
-    } else if label == "read with texts" {
-        read(rt, &Texts, label, words, dictionary, frame)
-    } else if label == "walk" {
-        walked(rt, &library, dictionary, frame)
-    } else {
-        case(rt, bench, label, words)
+    match label {
+        "check" => checked(rt, words, dictionary),
+        "read" => read(rt, &library, label, words, dictionary, frame),
+        "read with texts" => read(rt, &Texts, label, words, dictionary, frame),
+        "walk" => walked(rt, &library, dictionary, frame),
+        _ => case(rt, bench, label, words),
     }
 }
 
 // A line of the file.
 fn line(rt: &HostRuntime, bench: &mut Bench, label: &str, words: &str) -> anyhow::Result<()> {
-    if label == "dictionary" {
-        bench.dictionary = bytes_of(rt.alloc(), words)?;
-    } else if label == "frame" {
-        bench.frame = bytes_of(rt.alloc(), words)?;
-    } else if label == "dictionary file" {
-        bench.dictionary = fs::read(rt, words)?;
-    } else if label == "frame file" {
-        bench.frame = fs::read(rt, words)?;
-    } else {
-        asked(rt, bench, label, words)?;
+    match label {
+        "dictionary" => bench.dictionary = bytes_of(rt.alloc(), words)?,
+        "frame" => bench.frame = bytes_of(rt.alloc(), words)?,
+        "dictionary file" => bench.dictionary = fs::read(rt, words)?,
+        "frame file" => bench.frame = fs::read(rt, words)?,
+        _ => asked(rt, bench, label, words)?,
     }
     Ok(())
 }

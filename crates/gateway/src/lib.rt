@@ -8,7 +8,7 @@ ghost use Rattle.schema.specs.Reading.{verdict};
 ghost use Rattle.message.specs.Messages.{frame_verdict};
 ghost use Rattle.frame.specs.Readings.{shown};
 ghost use Rattle.gateway.specs.Answers.{number, place_after, tag_after};
-ghost use Rattle.gateway.specs.Finding.{kind_told, found_in, kind_after, at_after, length_after};
+ghost use Rattle.gateway.specs.Finding.{kind_number, kind_found, found_in, kind_after, at_after, length_after};
 
 use base::BASE;
 use dictionary::check;
@@ -27,6 +27,18 @@ fn tell(refusal: Refusal, place: &mut usize, tag: &mut u32) -> u8
     refusal.reason.number()
 }
 
+// Tells an answer: the number of a refusal, whose place and tag are written, or 0.
+fn told(answer: Result<(), Refusal>, place: &mut usize, tag: &mut u32) -> u8
+    ensures answer { result ≡ number answer }
+    ensures told_place { place.new ≡ place_after answer place.old }
+    ensures told_tag { tag.new ≡ tag_after answer tag.old }
+{
+    match answer {
+        Ok(()) => 0,
+        Err(refusal) => tell(refusal, place, tag),
+    }
+}
+
 // Checks a dictionary. The answer is 0 where no rule is broken, and the place and the tag stand as they were.
 // Else it is the number of the refusal, and the place and the tag are the refusal's.
 #[unsafe(no_mangle)]
@@ -35,10 +47,7 @@ pub extern "C" fn entrypoint_check(dictionary: &[u8], place: &mut usize, tag: &m
     ensures told_place { place.new ≡ place_after (verdict base_kinds dictionary.now) place.old }
     ensures told_tag { tag.new ≡ tag_after (verdict base_kinds dictionary.now) tag.old }
 {
-    match check(dictionary, &BASE) {
-        Ok(()) => 0,
-        Err(refusal) => tell(refusal, place, tag),
-    }
+    told(check(dictionary, &BASE), place, tag)
 }
 
 // Accepts bytes as a frame under a dictionary. The answer is 0 where they are one, and the place and the tag stand as they were.
@@ -54,29 +63,46 @@ pub extern "C" fn entrypoint_accept<'a>(
     ensures told_place { place.new ≡ place_after (frame_verdict base_kinds dictionary.now bytes.now) place.old }
     ensures told_tag { tag.new ≡ tag_after (frame_verdict base_kinds dictionary.now bytes.now) tag.old }
 {
-    match accept(dictionary, &BASE, bytes) {
-        Ok(_) => 0,
-        Err(refusal) => tell(refusal, place, tag),
+    told(accept(dictionary, &BASE, bytes).map(|_| ()), place, tag)
+}
+
+// What is found. The C interface takes the numbers.
+#[derive(Clone, Copy)]
+enum Kind {
+    // A field that is absent.
+    Absent = 0,
+    // A field that has a value.
+    Value = 1,
+    Data = 2,
+}
+
+impl Kind {
+    // The number that tells the kind to C.
+    fn number(self) -> u8
+        ensures { result ≡ kind_number self }
+    {
+        self as u8
     }
 }
 
-// What is found: 0 for a field that is absent, 1 for one that has a value, 2 for a data; where its part begins in the frame and how long it is, 0 and 0 where its line is newer than the frame.
+impl From<Reading<'_>> for Kind {
+    ghost from_gives = { λ reading kind. kind ≡ kind_found (shown reading) };
+
+    fn from(reading: Reading<'_>) -> Self {
+        match reading {
+            Reading::Absent => Kind::Absent,
+            Reading::Value(_) => Kind::Value,
+            Reading::Data(_) => Kind::Data,
+        }
+    }
+}
+
+// What is found, where its part begins in the frame and how long it is: 0 and 0 where its line is newer than the frame.
 #[derive(Clone, Copy)]
 struct Finding {
-    kind: u8,
+    kind: Kind,
     place: usize,
     length: usize,
-}
-
-// The number that tells what is read.
-fn kind_of(reading: Reading<'_>) -> u8
-    ensures { result ≡ kind_told (shown reading.entry) }
-{
-    match reading {
-        Reading::Absent => 0,
-        Reading::Value(_) => 1,
-        Reading::Data(_) => 2,
-    }
 }
 
 // What bytes that are accepted as a frame have at a group, an entry and a tag.
@@ -93,7 +119,7 @@ fn found<'a>(
     let reading = frame.read(&BASE, group, entry, tag)?;
     let spot = frame.spot(&BASE, group, entry, tag)?;
     Ok(Finding {
-        kind: kind_of(reading),
+        kind: Kind::from(reading),
         place: spot.place,
         length: spot.length,
     })
@@ -124,7 +150,7 @@ pub extern "C" fn entrypoint_find<'a>(
 {
     match found(dictionary, bytes, group, entry, tag) {
         Ok(finding) => {
-            *kind = finding.kind;
+            *kind = finding.kind.number();
             *at = finding.place;
             *length = finding.length;
             0

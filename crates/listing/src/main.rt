@@ -1,114 +1,27 @@
 // Lists what a recorded stream holds.
 #![tactic(auto)]
 
-ghost use Rattle.std.specs.Prelude.{◌≡◌, ◌<◌, true, [], ◌∷◌, length, take, Some, slice_index};
+ghost use Rattle.std.specs.Prelude.{◌≡◌, ◌<◌, length, take, Some};
 ghost use Rattle.std.specs.Option.{option_map};
-ghost use Rattle.std.specs.Fmt.{WritesOnOk, digit_glyph};
-ghost use Rattle.std.proofs.Math.Utf8.{encode};
 ghost use Rattle.types.specs.Answers.{meant_by};
-ghost use Rattle.message.specs.Frames.{stated};
 ghost use Rattle.frame.specs.Spots.{shown_item};
 ghost use Rattle.listing.specs.Lines.{dictionary, refused, shown_line, field_line, value_line, item_line, frame_line, told_next, line_at, Within};
-ghost use Rattle.listing.specs.Written.{written, written_value, hex, pair, pairs};
+ghost use Rattle.listing.specs.Written.{written};
 
 use base::BASE;
 use dictionary::check;
 use frame::{Frame, Item, Walk, accept};
+use judging::stated_at;
 use numbers::Numbers;
-use std::io::{ErrorKind, Read};
-use std::{fmt, fs, io};
+use printing::{Content, Hex, PlaceAndNumber, read_dictionary, read_start};
+use std::fmt;
+use std::ops::ControlFlow;
 use text::Texts;
 use types::{Joined, TypeLibrary, Value};
-use wire::{Piece, Refusal, beyond, cut, le_read, located, tail, upto};
-
-// Where the dictionary stands.
-const DICTIONARY: &str = "dictionary.bin";
+use wire::{Piece, Refusal, cut, located, tail, upto};
 
 // How many bytes of the stream are looked at.
 const LONGEST: usize = 65536;
-
-// A digit in hexadecimal.
-fn digit(n: u8) -> char
-    requires { n < 16 }
-    ensures { encode result ≡ digit_glyph true n ∷ [] }
-{
-    if n < 10 {
-        (48 + n) as char
-    } else {
-        (55 + n) as char
-    }
-}
-
-// Writes the two digits of a byte.
-fn put_pair<W: fmt::Write>(f: &mut fmt::Formatter<W>, b: u8) -> fmt::Result
-    ensures { WritesOnOk W.write_str_gives f.old result (pair b) f.new }
-{
-    let high = digit(b / 16);
-    let low = digit(b % 16);
-    let first = f.write_char(high);
-    first?;
-    f.write_char(low)
-}
-
-// The first byte.
-fn first_byte(bytes: &[u8]) -> u8
-    requires { 0 < length bytes.now }
-    ensures { result ≡ slice_index bytes.now 0 }
-{
-    bytes[0]
-}
-
-// Writes the two digits of each byte.
-fn put_pairs<W: fmt::Write>(f: &mut fmt::Formatter<W>, bytes: &[u8]) -> fmt::Result
-    ensures { WritesOnOk W.write_str_gives f.old result (pairs bytes.now) f.new }
-{
-    if bytes.len() == 0 {
-        return Ok(());
-    }
-    put_pair(f, first_byte(bytes))?;
-    put_pairs(f, tail(bytes, 1))
-}
-
-// Bytes in hexadecimal, a dash where there are none.
-#[derive(Clone, Copy)]
-struct Hex<'a> {
-    bytes: &'a [u8],
-}
-
-impl<'a> fmt::Display for Hex<'a> {
-    ghost output = { λ x. Some (hex x.bytes.now) };
-
-    fn fmt<W: fmt::Write>(&self, f: &mut fmt::Formatter<W>) -> fmt::Result {
-        if self.bytes.len() == 0 {
-            return f.write_str("-");
-        }
-        put_pairs(f, self.bytes)
-    }
-}
-
-// What a field holds: a value, or None where it is absent.
-#[derive(Clone, Copy)]
-struct Content<'a> {
-    value: Option<Value<'a>>,
-}
-
-impl<'a> fmt::Display for Content<'a> {
-    ghost output = { λ x. Some (written_value (meant_by x.value)) };
-
-    fn fmt<W: fmt::Write>(&self, f: &mut fmt::Formatter<W>) -> fmt::Result {
-        match self.value {
-            None => write!(f, "-"),
-            Some(Value::Unsigned(number)) => write!(f, "{number}"),
-            Some(Value::Signed(number)) => write!(f, "{number}"),
-            Some(Value::Decimal(mantissa, decimals)) => write!(f, "{mantissa}e-{decimals}"),
-            Some(Value::Text(bytes)) => {
-                let text = Hex { bytes };
-                write!(f, "{text}")
-            }
-            Some(Value::Investor((prefix, document))) => write!(f, "{prefix}/{document}"),
-        }
-    }
-}
 
 // A line of the listing.
 #[derive(Clone, Copy)]
@@ -121,8 +34,8 @@ enum Line<'a> {
     Frame {
         place: usize,
         length: usize,
-        template: u64,
-        version: u64,
+        template: u16,
+        version: u16,
     },
     // A field of the root.
     Root {
@@ -156,47 +69,29 @@ enum Line<'a> {
     },
 }
 
-impl<'a> fmt::Display for Line<'a> {
+impl fmt::Display for Line<'_> {
     ghost output = { λ x. Some (written (shown_line x)) };
 
     fn fmt<W: fmt::Write>(&self, f: &mut fmt::Formatter<W>) -> fmt::Result {
         match *self {
-            Line::Dictionary { refusal } => {
-                let number = refusal.reason.number();
-                let place = refusal.place;
-                write!(f, "D {place} {number}")
-            }
+            Line::Dictionary { refusal } => write!(f, "D {}", PlaceAndNumber(refusal)),
             Line::Frame {
                 place,
                 length,
                 template,
                 version,
             } => write!(f, "F {place} {length} {template} {version}"),
-            Line::Root { tag, value } => {
-                let content = Content { value };
-                write!(f, "r {tag} {content}")
-            }
-            Line::Entry { tag, value } => {
-                let content = Content { value };
-                write!(f, "e {tag} {content}")
-            }
+            Line::Root { tag, value } => write!(f, "r {tag} {}", Content(value)),
+            Line::Entry { tag, value } => write!(f, "e {tag} {}", Content(value)),
             Line::Group { tag, count } => write!(f, "g {tag} {count}"),
-            Line::Data { tag, content } => {
-                let bytes = Hex { bytes: content };
-                write!(f, "d {tag} {bytes}")
-            }
-            Line::Refused { place, refusal } => {
-                let number = refusal.reason.number();
-                let inside = refusal.place;
-                let tag = refusal.tag;
-                write!(f, "X {place} {number} {inside} {tag}")
-            }
+            Line::Data { tag, content } => write!(f, "d {tag} {}", Hex(content)),
+            Line::Refused { place, refusal } => write!(f, "X {place} {refusal}"),
             Line::Waiting { place, count } => write!(f, "W {place} {count}"),
         }
     }
 }
 
-// The line of a refused dictionary.
+// The line of a refused dictionary, for which each program has its own kind of line.
 fn dictionary_line<'a>(refusal: Refusal) -> Line<'a>
     ensures { shown_line result ≡ dictionary refusal }
 {
@@ -210,13 +105,6 @@ fn refused_line<'a>(place: usize, refusal: Refusal) -> Line<'a>
     Line::Refused { place, refusal }
 }
 
-// The number of two bytes at a place.
-fn stated(bytes: &[u8], place: usize) -> u64
-    ensures { result ≡ stated bytes.now place }
-{
-    le_read(upto(beyond(bytes, place), 2))
-}
-
 // The line of a frame that begins at the place.
 fn frame_line<'a>(place: usize, bytes: &[u8]) -> Line<'a>
     ensures { shown_line result ≡ frame_line place bytes.now }
@@ -224,8 +112,8 @@ fn frame_line<'a>(place: usize, bytes: &[u8]) -> Line<'a>
     Line::Frame {
         place,
         length: bytes.len(),
-        template: stated(bytes, 6),
-        version: stated(bytes, 10),
+        template: stated_at(bytes, 6),
+        version: stated_at(bytes, 10),
     }
 }
 
@@ -239,136 +127,119 @@ fn next_frame<'a>(
     ensures value { told_next place result ≡ line_at dictionary.now stream.now place }
     ensures within { Within result place (length stream.now) }
 {
-    match cut(tail(stream, place)) {
-        Ok(Piece::Frame { frame, .. }) => match accept(dictionary, &BASE, frame) {
-            Ok(accepted) => Ok(accepted),
-            Err(refusal) => Err(Line::Refused { place, refusal }),
-        },
-        Ok(Piece::Missing(count)) => Err(Line::Waiting { place, count }),
-        Err(refusal) => Err(Line::Refused { place, refusal }),
+    let piece = cut(tail(stream, place)).map_err(|refusal| Line::Refused { place, refusal })?;
+    match piece {
+        Piece::Frame { frame, .. } => {
+            accept(dictionary, &BASE, frame).map_err(|refusal| Line::Refused { place, refusal })
+        }
+        Piece::Missing(count) => Err(Line::Waiting { place, count }),
     }
 }
 
-// The line of a field, of the root or inside a group.
-fn field_line(inside: bool, tag: u32, value: Option<Value<'_>>) -> Line<'_>
-    ensures { shown_line result ≡ field_line inside tag (meant_by value.entry) }
-{
-    if inside {
-        Line::Entry { tag, value }
-    } else {
-        Line::Root { tag, value }
-    }
-}
-
-// The line of a field of the frame at `place`, by its bytes at the place `at` of the frame.
-fn value_line<'a, L: TypeLibrary>(
-    library: &L,
-    inside: bool,
+// What tells the items of the frame at `place`. A field is of an entry if it is inside a group: a fact, as the definition of the lines has it, and an enum of two would say no more.
+#[derive(Clone, Copy)]
+struct Teller<'a, L> {
+    library: &'a L,
     place: usize,
-    at: usize,
-    tag: u32,
-    number: u8,
-    argument: &[u8],
-    bytes: &'a [u8],
-) -> Line<'a>
-    ensures { shown_line result ≡ value_line (L.known library.now) inside place at tag number argument.now bytes.now }
-{
-    match located(library.read(number, argument, bytes), at, tag) {
-        Ok(value) => field_line(inside, tag, value),
-        Err(refusal) => Line::Refused { place, refusal },
-    }
-}
-
-// The line of an item of the frame at `place`, and none for the end. A field is of an entry if it is inside a group.
-fn item_line<'a, L: TypeLibrary>(
-    library: &L,
     inside: bool,
-    place: usize,
-    item: Item<'a>,
-) -> Option<Line<'a>>
-    ensures { option_map shown_line result ≡ option_map (item_line (L.known library.now) inside place) (shown_item item.entry) }
-{
-    match item {
-        Item::Field {
-            place: at,
-            tag,
-            number,
-            argument,
-            bytes,
-        } => Some(value_line(library, inside, place, at, tag, number, argument, bytes)),
-        Item::Group { tag, count, .. } => Some(Line::Group { tag, count }),
-        Item::Data { tag, content, .. } => Some(Line::Data { tag, content }),
-        Item::End => None,
-    }
 }
 
-// The dictionary's bytes: none where there is no such file.
-fn read_dictionary(rt: &HostRuntime) -> io::Result<Vec<u8>> {
-    match fs::read(rt, DICTIONARY) {
-        Ok(bytes) => Ok(bytes),
-        Err(e) => {
-            if e.kind() == ErrorKind::NotFound {
-                Ok(Vec::new(rt.alloc()))
-            } else {
-                Err(e)
-            }
+impl<L: TypeLibrary> Teller<'_, L> {
+    // The line of a field, of the root or inside a group.
+    fn field_line<'b>(&self, tag: u32, value: Option<Value<'b>>) -> Line<'b>
+        ensures { shown_line result ≡ field_line self.now.inside tag (meant_by value.entry) }
+    {
+        if self.inside {
+            Line::Entry { tag, value }
+        } else {
+            Line::Root { tag, value }
+        }
+    }
+
+    // The line of a field, by its bytes at the place `at` of the frame.
+    fn value_line<'b>(
+        &self,
+        at: usize,
+        tag: u32,
+        number: u8,
+        argument: &[u8],
+        bytes: &'b [u8],
+    ) -> Line<'b>
+        ensures { shown_line result ≡ value_line (L.known self.now.library.now) self.now.inside self.now.place at tag number argument.now bytes.now }
+    {
+        match located(self.library.read(number, argument, bytes), at, tag) {
+            Ok(value) => self.field_line(tag, value),
+            Err(refusal) => Line::Refused {
+                place: self.place,
+                refusal,
+            },
+        }
+    }
+
+    // The line of an item, and none for the end.
+    fn item_line<'b>(&self, item: Item<'b>) -> Option<Line<'b>>
+        ensures { option_map shown_line result ≡ option_map (item_line (L.known self.now.library.now) self.now.inside self.now.place) (shown_item item.entry) }
+    {
+        match item {
+            Item::Field {
+                place: at,
+                tag,
+                number,
+                argument,
+                bytes,
+            } => Some(self.value_line(at, tag, number, argument, bytes)),
+            Item::Group { tag, count, .. } => Some(Line::Group { tag, count }),
+            Item::Data { tag, content, .. } => Some(Line::Data { tag, content }),
+            Item::End => None,
         }
     }
 }
 
-// The bytes of the stream that are looked at.
-fn read_stream(rt: &HostRuntime) -> io::Result<Vec<u8>> {
-    let mut bytes = Vec::new(rt.alloc());
-    rt.stdin().take(LONGEST as u64).read_to_end(&mut bytes)?;
-    Ok(bytes)
-}
-
-// Prints a line.
-fn print_line(rt: &HostRuntime, line: Line<'_>) -> anyhow::Result<()> {
-    println!(rt; "{line}")?;
-    Ok(())
-}
-
-// Prints the line of each item that is left of a walk over the frame at `place`. Whether the listing goes on behind it.
+// Prints the line of each item that is left of a walk over the frame at `place`. A refused item ends the listing.
+// A walk answers its end as an item, so it is no iterator to go through by `for`.
 fn print_items(
     rt: &HostRuntime,
     place: usize,
     mut walk: Walk<'_, Joined<Numbers, Texts>>,
-) -> anyhow::Result<bool> {
-    let mut inside = false;
-    while let Some(line) = item_line(&BASE, inside, place, walk.next()) {
-        print_line(rt, line)?;
+) -> anyhow::Result<ControlFlow<()>> {
+    let mut teller = Teller {
+        library: &BASE,
+        place,
+        inside: false,
+    };
+    while let Some(line) = teller.item_line(walk.next()) {
+        rt.println(line)?;
         match line {
             Line::Group { .. } => {
-                inside = true;
+                teller.inside = true;
             }
             Line::Refused { .. } => {
-                return Ok(false);
+                return Ok(ControlFlow::Break(()));
             }
             _ => {}
         }
     }
-    Ok(true)
+    Ok(ControlFlow::Continue(()))
 }
 
-// Prints the lines of the frame at `place`. Whether the listing goes on behind it.
+// Prints the lines of the frame at `place`.
 fn print_frame<'a>(
     rt: &HostRuntime,
     library: &'a Joined<Numbers, Texts>,
     place: usize,
     frame: Frame<'a>,
-) -> anyhow::Result<bool> {
-    print_line(rt, frame_line(place, frame.bytes()))?;
+) -> anyhow::Result<ControlFlow<()>> {
+    rt.println(frame_line(place, frame.bytes()))?;
     match frame.walk(library) {
         Ok(walk) => print_items(rt, place, walk),
         Err(refusal) => {
-            print_line(rt, refused_line(place, refusal))?;
-            Ok(false)
+            rt.println(refused_line(place, refusal))?;
+            Ok(ControlFlow::Break(()))
         }
     }
 }
 
-// Prints the lines of a stream.
+// Prints the lines of a stream. The place goes on by whole frames and stands in their lines: an iterator over the frames would keep the same place.
 fn print_stream<'a>(
     rt: &HostRuntime,
     library: &'a Joined<Numbers, Texts>,
@@ -379,14 +250,14 @@ fn print_stream<'a>(
     while place < stream.len() {
         match next_frame(dictionary, stream, place) {
             Ok(frame) => {
-                let goes_on = print_frame(rt, library, place, frame)?;
-                if !goes_on {
+                if print_frame(rt, library, place, frame)?.is_break() {
                     return Ok(());
                 }
                 place += frame.bytes().len();
             }
             Err(line) => {
-                return print_line(rt, line);
+                rt.println(line)?;
+                return Ok(());
             }
         }
     }
@@ -404,9 +275,10 @@ fn looked_at(stream: &[u8]) -> &[u8]
 fn run(rt: &HostRuntime) -> anyhow::Result<()> {
     let dictionary = read_dictionary(rt)?;
     if let Err(refusal) = check(dictionary.as_slice(), &BASE) {
-        return print_line(rt, dictionary_line(refusal));
+        rt.println(dictionary_line(refusal))?;
+        return Ok(());
     }
-    let stream = read_stream(rt)?;
+    let stream = read_start(rt.alloc(), rt.stdin(), LONGEST)?;
     let library = BASE;
     print_stream(
         rt,

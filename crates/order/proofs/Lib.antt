@@ -1,3 +1,2 @@
-pub mod Spelled
 pub mod Pairs
-pub mod Made
+pub mod Spelled

@@ -1,28 +1,9 @@
 -- How a line is written. Assumes nothing.
-use Rattle.std.specs.Prelude.{ℕ, ◌/◌, ◌%◌, true, List, [], ◌∷◌, ◌++◌, decimal}
-use Rattle.std.specs.Fmt.{digit_glyph}
+use Rattle.std.specs.Prelude.{ℕ, List, [], ◌∷◌, ◌++◌}
 use Rattle.wire.specs.Refusals.{number_of}
+use Rattle.printing.specs.Written.{numbers, hex}
 use Rattle.order.specs.declared.shown.Line.{Line}
 use Rattle.order.specs.declared.shown.Line.TheVariants as line
-
--- numbers in decimal, each behind a blank
-abbrev pub numbers : List ℕ → List ℕ
-numbers [] = []
-numbers (n ∷ ns) = 32 ∷ (decimal n ++ numbers ns)
-
--- a byte as two digits in hexadecimal
-abbrev pub pair : ℕ → List ℕ
-pair b = digit_glyph true (b / 16) ∷ digit_glyph true (b % 16) ∷ []
-
--- the same for each byte
-abbrev pub pairs : List ℕ → List ℕ
-pairs [] = []
-pairs (b ∷ bs) = pair b ++ pairs bs
-
--- and a dash where there are none
-abbrev pub hex : List ℕ → List ℕ
-hex [] = 45 ∷ []
-hex (b ∷ bs) = pairs (b ∷ bs)
 
 -- a line: `D`, `ok`, `refused`, `out of turn`, `frame`, `buffer` or `bad line`, and what it tells
 abbrev pub written : Line → List ℕ

@@ -1,12 +1,11 @@
 // What a line of the script says.
-use crate::words::{is_hex, number, number8, number16, number32, place_of};
-use wire::{beyond, upto};
+use crate::words::{Cut, cut_at, is_hex, number, number_in};
 
 // No buffer is longer.
 const LONGEST_BUFFER: u64 = 65536;
 
 // What parts the words of a line.
-const BLANK: u8 = 32;
+const BLANK: u8 = b' ';
 
 // A value as it is written: of a text the digits of its bytes.
 #[derive(Clone, Copy)]
@@ -18,7 +17,7 @@ pub(crate) enum Given<'a> {
     Investor(u16, u32),
 }
 
-// A line of the script; bytes are the digits that they are written in.
+// A line of the script; bytes are the digits that they are written in. Digits are no bytes before the heap has made them, so a command is no call with another content.
 #[derive(Clone, Copy)]
 pub(crate) enum Command<'a> {
     // A new buffer of zeros.
@@ -59,51 +58,27 @@ pub(crate) enum Command<'a> {
     Show,
 }
 
-// A word, and what stands behind the blank after it: None where there is no such blank.
-#[derive(Clone, Copy)]
-struct Cut<'a> {
-    word: &'a [u8],
-    rest: Option<&'a [u8]>,
-}
-
-// The first word of a line.
-fn first_word(line: &[u8]) -> Cut<'_> {
-    let end = place_of(line, BLANK);
-    let word = upto(line, end);
-    if end < line.len() {
-        Cut {
-            word,
-            rest: Some(beyond(line, end + 1)),
-        }
-    } else {
-        Cut { word, rest: None }
-    }
-}
-
 // The next word, where there is one.
 fn next_word<'a>(rest: Option<&'a [u8]>) -> Option<Cut<'a>> {
-    match rest {
-        Some(line) => Some(first_word(line)),
-        None => None,
-    }
+    Some(cut_at(rest?, BLANK))
+}
+
+// Nothing stands behind the last word.
+fn ended(rest: Option<&[u8]>) -> Option<()> {
+    rest.is_none().then_some(())
 }
 
 // The last word of a line.
 fn last_word<'a>(rest: Option<&'a [u8]>) -> Option<&'a [u8]> {
-    let Cut { word, rest: left } = next_word(rest)?;
-    match left {
-        None => Some(word),
-        Some(_) => None,
-    }
+    let Cut { word, rest } = next_word(rest)?;
+    ended(rest)?;
+    Some(word)
 }
 
 // The digits behind `x:`.
 fn marked_digits(word: &[u8]) -> Option<&[u8]> {
     match word {
-        [b'x', b':', ..] => {
-            let digits = beyond(word, 2);
-            if is_hex(digits) { Some(digits) } else { None }
-        }
+        [b'x', b':', digits @ ..] if is_hex(digits) => Some(digits),
         _ => None,
     }
 }
@@ -111,77 +86,54 @@ fn marked_digits(word: &[u8]) -> Option<&[u8]> {
 // The digits of the bytes of a data; a dash says that it has none.
 fn data_digits(word: &[u8]) -> Option<&[u8]> {
     match word {
-        b"-" => Some(beyond(word, 1)),
         [] => None,
-        _ => { if is_hex(word) { Some(word) } else { None } }
+        b"-" => Some(&[]),
+        _ => is_hex(word).then_some(word),
     }
 }
 
 // A number that is not negative.
 fn positive(word: &[u8]) -> Option<i64> {
-    let n = number(word)?;
-    if n < 9223372036854775808 {
-        Some(n as i64)
-    } else {
-        None
-    }
+    i64::try_from(number(word)?).ok()
 }
 
 // The negative of a number.
 fn negative(word: &[u8]) -> Option<i64> {
-    let n = number(word)?;
-    if n < 9223372036854775808 {
-        Some(0 - n as i64)
-    } else if n == 9223372036854775808 {
-        Some(i64::MIN)
-    } else {
-        None
-    }
-}
-
-// A number behind its sign.
-fn signed(word: &[u8]) -> Option<i64> {
-    match word {
-        [b'+', ..] => positive(beyond(word, 1)),
-        [b'-', ..] => negative(beyond(word, 1)),
-        _ => None,
-    }
+    0i64.checked_sub_unsigned(number(word)?)
 }
 
 // A number with a sign or without.
 fn mantissa(word: &[u8]) -> Option<i64> {
     match word {
-        [b'+', ..] => signed(word),
-        [b'-', ..] => signed(word),
+        [b'+', digits @ ..] => positive(digits),
+        [b'-', digits @ ..] => negative(digits),
         _ => positive(word),
     }
 }
 
-// How many decimals, behind `e-`.
+// How many decimals, behind the `-` of `e-`.
 fn decimals(word: &[u8]) -> Option<u8> {
     match word {
-        [b'e', b'-', ..] => number8(beyond(word, 2)),
+        [b'-', digits @ ..] => number_in(digits),
         _ => None,
     }
 }
 
 // A value of numbers.
 fn number_value(word: &[u8]) -> Option<Given<'_>> {
-    let slash = place_of(word, b'/');
-    if slash < word.len() {
-        let prefix = number16(upto(word, slash))?;
-        let document = number32(beyond(word, slash + 1))?;
-        return Some(Given::Investor(prefix, document));
+    let Cut {
+        word: prefix,
+        rest: document,
+    } = cut_at(word, b'/');
+    if let Some(document) = document {
+        return Some(Given::Investor(number_in(prefix)?, number_in(document)?));
     }
-    let mark = place_of(word, b'e');
-    if mark < word.len() {
-        let whole = mantissa(upto(word, mark))?;
-        let places = decimals(beyond(word, mark))?;
-        return Some(Given::Decimal(whole, places));
+    let Cut { word: whole, rest } = cut_at(word, b'e');
+    if let Some(places) = rest {
+        return Some(Given::Decimal(mantissa(whole)?, decimals(places)?));
     }
     match word {
-        [b'+', ..] => Some(Given::Signed(signed(word)?)),
-        [b'-', ..] => Some(Given::Signed(signed(word)?)),
+        [b'+' | b'-', ..] => Some(Given::Signed(mantissa(word)?)),
         _ => Some(Given::Unsigned(number(word)?)),
     }
 }
@@ -207,35 +159,30 @@ fn read_spot<'a>(rest: Option<&'a [u8]>) -> Option<Spot<'a>> {
     let second = next_word(first.rest)?;
     let third = next_word(second.rest)?;
     Some(Spot {
-        group: number32(first.word)?,
+        group: number_in(first.word)?,
         entry: number(second.word)? as usize,
-        tag: number32(third.word)?,
+        tag: number_in(third.word)?,
         rest: third.rest,
     })
 }
 
 fn buffer<'a>(rest: Option<&'a [u8]>) -> Option<Command<'a>> {
     let word = last_word(rest)?;
-    match marked_digits(word) {
-        Some(digits) => Some(Command::Bytes { digits }),
-        None => {
-            let length = number(word)?;
-            if length <= LONGEST_BUFFER {
-                Some(Command::Zeros {
-                    length: length as usize,
-                })
-            } else {
-                None
-            }
-        }
+    if let Some(digits) = marked_digits(word) {
+        return Some(Command::Bytes { digits });
     }
+    let length = number(word)?;
+    (length <= LONGEST_BUFFER).then_some(Command::Zeros {
+        length: length as usize,
+    })
 }
 
 fn open<'a>(rest: Option<&'a [u8]>) -> Option<Command<'a>> {
     let first = next_word(rest)?;
-    let template = number16(first.word)?;
-    let version = number16(last_word(first.rest)?)?;
-    Some(Command::Open { template, version })
+    Some(Command::Open {
+        template: number_in(first.word)?,
+        version: number_in(last_word(first.rest)?)?,
+    })
 }
 
 fn set<'a>(rest: Option<&'a [u8]>) -> Option<Command<'a>> {
@@ -243,14 +190,13 @@ fn set<'a>(rest: Option<&'a [u8]>) -> Option<Command<'a>> {
         group,
         entry,
         tag,
-        rest: behind,
+        rest,
     } = read_spot(rest)?;
-    let value = value(last_word(behind)?)?;
     Some(Command::Set {
         group,
         entry,
         tag,
-        value,
+        value: value(last_word(rest)?)?,
     })
 }
 
@@ -259,42 +205,44 @@ fn clear<'a>(rest: Option<&'a [u8]>) -> Option<Command<'a>> {
         group,
         entry,
         tag,
-        rest: behind,
+        rest,
     } = read_spot(rest)?;
-    match behind {
-        None => Some(Command::Clear { group, entry, tag }),
-        Some(_) => None,
-    }
+    ended(rest)?;
+    Some(Command::Clear { group, entry, tag })
+}
+
+// A group, as the last word of a line.
+fn last_group(rest: Option<&[u8]>) -> Option<u32> {
+    number_in(last_word(rest)?)
 }
 
 fn write<'a>(rest: Option<&'a [u8]>) -> Option<Command<'a>> {
     let first = next_word(rest)?;
-    let tag = number32(first.word)?;
-    let digits = data_digits(last_word(first.rest)?)?;
-    Some(Command::Write { tag, digits })
+    Some(Command::Write {
+        tag: number_in(first.word)?,
+        digits: data_digits(last_word(first.rest)?)?,
+    })
 }
 
 // A command that is one word.
 fn alone<'a>(command: Command<'a>, rest: Option<&'a [u8]>) -> Option<Command<'a>> {
-    match rest {
-        None => Some(command),
-        Some(_) => None,
-    }
+    ended(rest)?;
+    Some(command)
 }
 
-// What a line says, without its line feed: None where it is no call.
+// What a line says, without its line feed: None where it is no command.
 pub(crate) fn read_command(line: &[u8]) -> Option<Command<'_>> {
-    let Cut { word, rest } = first_word(line);
+    let Cut { word, rest } = cut_at(line, BLANK);
     match word {
         b"buffer" => buffer(rest),
         b"open" => open(rest),
         b"set" => set(rest),
         b"clear" => clear(rest),
         b"append" => Some(Command::Append {
-            group: number32(last_word(rest)?)?,
+            group: last_group(rest)?,
         }),
         b"drop" => Some(Command::Drop {
-            group: number32(last_word(rest)?)?,
+            group: last_group(rest)?,
         }),
         b"write" => write(rest),
         b"close" => alone(Command::Close, rest),

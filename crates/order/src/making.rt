@@ -2,26 +2,26 @@
 ghost use Rattle.std.specs.Prelude.{◌≡◌};
 ghost use Rattle.std.specs.Option.{option_map};
 ghost use Rattle.types.specs.Meanings.{meaning};
-ghost use Rattle.base.specs.Known.{base_kinds};
-ghost use Rattle.replay.specs.Shown.{shown_call, shown_form};
-ghost use Rattle.replay.specs.Turns.{Turned};
-ghost use Rattle.order.specs.Said.{given_meaning, said_call, command_digits, line_of};
+ghost use Rattle.replay.specs.Shown.{shown_call};
+ghost use Rattle.order.specs.Said.{given_meaning, said_call, command_digits};
 
 use crate::command::{Command, Given, read_command};
-use crate::shown::{Line, accepted_line, bad_line, print_line};
-use crate::words::{place_of, unhex};
+use crate::shown::{Line, accepted_line, bad_line};
+use crate::words::unhex;
 use base::BASE;
-use replay::{Answer, Call, Form, run};
+use replay::{Answer, Call, Form, make};
 use std::alloc::Global;
-use std::slice;
 use types::Value;
-use wire::{beyond, upto};
+use wire::upto;
 
 // How long the buffer is until the script names another.
 const USUAL_BUFFER: usize = 16384;
 
+// How many bytes of the script are looked at.
+pub(crate) const LONGEST: usize = 65536;
+
 // What ends a line.
-const LINE_FEED: u8 = 10;
+const LINE_FEED: u8 = b'\n';
 
 // A value, with the bytes that its digits are.
 fn value_of<'a>(given: Given<'_>, bytes: &'a [u8]) -> Value<'a>
@@ -41,9 +41,7 @@ fn call_of<'a>(command: Command<'_>, bytes: &'a [u8]) -> Option<Call<'a>>
     ensures { option_map shown_call result ≡ said_call command.entry bytes.now }
 {
     match command {
-        Command::Zeros { .. } => None,
-        Command::Bytes { .. } => None,
-        Command::Show => None,
+        Command::Zeros { .. } | Command::Bytes { .. } | Command::Show => None,
         Command::Open { template, version } => Some(Call::Open { template, version }),
         Command::Set {
             group,
@@ -83,33 +81,6 @@ fn digits_of<'a>(command: Command<'a>) -> &'a [u8]
     }
 }
 
-// Makes one call.
-fn make(dictionary: &[u8], buffer: &mut [u8], form: Form, call: Call<'_>) -> (Form, Answer)
-    ensures { Turned base_kinds dictionary.now (shown_form form) buffer.old (shown_call call.entry) result.0 result.1 buffer.new }
-{
-    let mut answers = [Answer::OutOfTurn];
-    let left = run(
-        dictionary,
-        &BASE,
-        buffer,
-        form,
-        slice::from_ref(&call),
-        &mut answers,
-    );
-    (left, answers[0])
-}
-
-// The line of an answer.
-fn answer_line<'a>(answer: Answer) -> Line<'a>
-    ensures { result ≡ line_of answer }
-{
-    match answer {
-        Answer::Accepted => Line::Accepted,
-        Answer::Refused(refusal) => Line::Refused { refusal },
-        Answer::OutOfTurn => Line::OutOfTurn,
-    }
-}
-
 // How long the frame is that a call has closed, where it has.
 fn closed_length(call: Call<'_>, answer: Answer, form: &Form) -> Option<usize> {
     match (call, answer, form) {
@@ -125,29 +96,31 @@ fn print_answer(
     answer: Answer,
     closed: Option<usize>,
 ) -> anyhow::Result<()> {
-    print_line(rt, answer_line(answer))?;
-    match closed {
-        Some(length) => print_line(
-            rt,
-            Line::Frame {
-                bytes: upto(buffer, length),
-            },
-        ),
-        None => Ok(()),
+    rt.println(Line::from(answer))?;
+    if let Some(length) = closed {
+        let bytes = upto(buffer, length);
+        rt.println(Line::Frame { bytes })?;
     }
+    Ok(())
 }
 
 // The bytes of a new buffer.
 fn zeros(heap: Global, length: usize) -> anyhow::Result<Vec<u8>> {
-    let bytes = vec![in heap; 0; length]?;
-    Ok(bytes)
+    Ok(vec![in heap; 0; length]?)
 }
 
-// The bytes that digits are.
-fn bytes_of(heap: Global, digits: &[u8]) -> anyhow::Result<Vec<u8>> {
-    let bytes = unhex(heap, digits)?;
-    Ok(bytes)
+// The form, let go where an error ends the program.
+fn kept(form: Form, done: anyhow::Result<()>) -> anyhow::Result<Form> {
+    match done {
+        Ok(()) => Ok(form),
+        Err(e) => {
+            form.abandon();
+            Err(e)
+        }
+    }
 }
+
+// The handle, the buffer and the form stay parameters: the form is moved through each turn, and a struct of them would be taken apart in each.
 
 // Takes up a new buffer, and lets the form go.
 fn take_up(
@@ -155,15 +128,11 @@ fn take_up(
     buffer: &mut Vec<u8>,
     form: Form,
     made: anyhow::Result<Vec<u8>>,
-) -> (Form, anyhow::Result<()>) {
-    match made {
-        Ok(bytes) => {
-            *buffer = bytes;
-            form.abandon();
-            (Form::None, print_line(rt, accepted_line()))
-        }
-        Err(e) => (form, Err(e)),
-    }
+) -> anyhow::Result<Form> {
+    form.abandon();
+    *buffer = made?;
+    rt.println(accepted_line())?;
+    Ok(Form::None)
 }
 
 // Makes a call, and prints what is answered.
@@ -173,29 +142,30 @@ fn call_turn(
     buffer: &mut [u8],
     form: Form,
     call: Call<'_>,
-) -> (Form, anyhow::Result<()>) {
-    let (left, answer) = make(dictionary, buffer, form, call);
+) -> anyhow::Result<Form> {
+    let (left, answer) = make(dictionary, &BASE, buffer, form, call);
     let closed = closed_length(call, answer, &left);
-    let printed = print_answer(rt, buffer, answer, closed);
-    (left, printed)
+    kept(left, print_answer(rt, buffer, answer, closed))
 }
 
 // Prints the whole buffer.
 fn show(rt: &HostRuntime, bytes: &[u8]) -> anyhow::Result<()> {
-    print_line(rt, Line::Buffer { bytes })
+    rt.println(Line::Buffer { bytes })?;
+    Ok(())
 }
 
-// Does what a command about the buffer says, or shows it.
+// Does what a command about the buffer says, or shows it; `bytes` are those that its digits are.
 fn buffer_turn(
     rt: &HostRuntime,
     buffer: &mut Vec<u8>,
     form: Form,
     command: Command<'_>,
-) -> (Form, anyhow::Result<()>) {
+    bytes: Vec<u8>,
+) -> anyhow::Result<Form> {
     match command {
         Command::Zeros { length } => take_up(rt, buffer, form, zeros(rt.alloc(), length)),
-        Command::Bytes { digits } => take_up(rt, buffer, form, bytes_of(rt.alloc(), digits)),
-        _ => (form, show(rt, buffer.as_slice())),
+        Command::Bytes { .. } => take_up(rt, buffer, form, Ok(bytes)),
+        _ => kept(form, show(rt, buffer.as_slice())),
     }
 }
 
@@ -206,59 +176,38 @@ fn command_turn(
     buffer: &mut Vec<u8>,
     form: Form,
     command: Command<'_>,
-) -> (Form, anyhow::Result<()>) {
-    match bytes_of(rt.alloc(), digits_of(command)) {
+) -> anyhow::Result<Form> {
+    match unhex(rt.alloc(), digits_of(command)) {
         Ok(bytes) => match call_of(command, bytes.as_slice()) {
             Some(call) => call_turn(rt, dictionary, buffer.as_mut_slice(), form, call),
-            None => buffer_turn(rt, buffer, form, command),
+            None => buffer_turn(rt, buffer, form, command, bytes),
         },
-        Err(e) => (form, Err(e)),
+        Err(e) => {
+            form.abandon();
+            Err(e.into())
+        }
     }
 }
 
-// What the line says that ends before the place `end`.
-fn line_command(left: &[u8], end: usize, whole: bool) -> Option<Command<'_>> {
-    if end < left.len() || whole {
-        read_command(upto(left, end))
-    } else {
-        None
-    }
+// What a line says that lies within the bytes that are looked at: None where it is no call, or goes on behind them.
+fn line_command<'a>(line: &'a [u8], left: &mut usize) -> Option<Command<'a>> {
+    *left = left.checked_sub(line.len())?;
+    read_command(line.strip_suffix(&[LINE_FEED]).unwrap_or(line))
 }
 
-// Does what the script says, line by line; `whole` says that no more of it is left out. A line that is no call ends it, and so does one that is not there to its end.
-pub(crate) fn play(
-    rt: &HostRuntime,
-    dictionary: &[u8],
-    script: &[u8],
-    whole: bool,
-) -> anyhow::Result<()> {
+// Does what the script says, line by line. A line that is no call ends it, and so does one that goes on behind the bytes that are looked at.
+pub(crate) fn play(rt: &HostRuntime, dictionary: &[u8], script: &[u8]) -> anyhow::Result<()> {
     let mut buffer = zeros(rt.alloc(), USUAL_BUFFER)?;
     let mut form = Form::None;
-    let mut left = script;
-    let mut number = 1;
-    while left.len() > 0 {
-        let end = place_of(left, LINE_FEED);
-        match line_command(left, end, whole) {
-            Some(command) => {
-                let (next, printed) = command_turn(rt, dictionary, &mut buffer, form, command);
-                form = next;
-                if let Err(e) = printed {
-                    form.abandon();
-                    return Err(e);
-                }
-            }
-            None => {
-                form.abandon();
-                return print_line(rt, bad_line(number));
-            }
-        }
-        left = beyond(left, end + 1);
-        number += 1;
+    let mut left = LONGEST;
+    for (index, line) in script.split_inclusive(|b| *b == LINE_FEED).enumerate() {
+        let Some(command) = line_command(line, &mut left) else {
+            form.abandon();
+            rt.println(bad_line(index.saturating_add(1)))?;
+            return Ok(());
+        };
+        form = command_turn(rt, dictionary, &mut buffer, form, command)?;
     }
     form.abandon();
-    if whole {
-        Ok(())
-    } else {
-        print_line(rt, bad_line(number))
-    }
+    Ok(())
 }

@@ -1,63 +1,12 @@
 // The lines that are printed.
-ghost use Rattle.std.specs.Prelude.{◌≡◌, ◌<◌, true, [], ◌∷◌, Some};
-ghost use Rattle.std.specs.Fmt.{WritesOnOk, digit_glyph};
-ghost use Rattle.std.proofs.Math.Utf8.{encode};
-ghost use Rattle.order.specs.Written.{written, hex, pair, pairs};
+ghost use Rattle.std.specs.Prelude.{◌≡◌, Some};
+ghost use Rattle.order.specs.Said.{line_of};
+ghost use Rattle.order.specs.Written.{written};
 
+use printing::{Hex, PlaceAndNumber};
+use replay::Answer;
 use std::fmt;
 use wire::Refusal;
-
-// A digit in hexadecimal.
-fn digit(n: u8) -> char
-    requires { n < 16 }
-    ensures { encode result ≡ digit_glyph true n ∷ [] }
-{
-    if n < 10 {
-        (48 + n) as char
-    } else {
-        (55 + n) as char
-    }
-}
-
-// Writes the two digits of a byte.
-fn put_pair<W: fmt::Write>(f: &mut fmt::Formatter<W>, b: u8) -> fmt::Result
-    ensures { WritesOnOk W.write_str_gives f.old result (pair b) f.new }
-{
-    let high = digit(b / 16);
-    let low = digit(b % 16);
-    let first = f.write_char(high);
-    first?;
-    f.write_char(low)
-}
-
-// Writes the two digits of each byte.
-fn put_pairs<W: fmt::Write>(f: &mut fmt::Formatter<W>, bytes: &[u8]) -> fmt::Result
-    ensures { WritesOnOk W.write_str_gives f.old result (pairs bytes.now) f.new }
-{
-    let mut i = 0;
-    while i < bytes.len() {
-        put_pair(f, bytes[i])?;
-        i += 1;
-    }
-    Ok(())
-}
-
-// Bytes in hexadecimal, a dash where there are none.
-#[derive(Clone, Copy)]
-struct Hex<'a> {
-    bytes: &'a [u8],
-}
-
-impl<'a> fmt::Display for Hex<'a> {
-    ghost output = { λ x. Some (hex x.bytes.now) };
-
-    fn fmt<W: fmt::Write>(&self, f: &mut fmt::Formatter<W>) -> fmt::Result {
-        if self.bytes.len() == 0 {
-            return f.write_str("-");
-        }
-        put_pairs(f, self.bytes)
-    }
-}
 
 // A line that is printed.
 #[derive(Clone, Copy)]
@@ -78,44 +27,35 @@ pub(crate) enum Line<'a> {
     Bad { number: usize },
 }
 
-impl<'a> fmt::Display for Line<'a> {
+impl fmt::Display for Line<'_> {
     ghost output = { λ x. Some (written x) };
 
     fn fmt<W: fmt::Write>(&self, f: &mut fmt::Formatter<W>) -> fmt::Result {
         match *self {
-            Line::Dictionary { refusal } => {
-                let number = refusal.reason.number();
-                let place = refusal.place;
-                write!(f, "D {place} {number}")
-            }
+            Line::Dictionary { refusal } => write!(f, "D {}", PlaceAndNumber(refusal)),
             Line::Accepted => f.write_str("ok"),
-            Line::Refused { refusal } => {
-                let number = refusal.reason.number();
-                let place = refusal.place;
-                let tag = refusal.tag;
-                write!(f, "refused {number} {place} {tag}")
-            }
+            Line::Refused { refusal } => write!(f, "refused {refusal}"),
             Line::OutOfTurn => f.write_str("out of turn"),
-            Line::Frame { bytes } => {
-                let digits = Hex { bytes };
-                write!(f, "frame {digits}")
-            }
-            Line::Buffer { bytes } => {
-                let digits = Hex { bytes };
-                write!(f, "buffer {digits}")
-            }
+            Line::Frame { bytes } => write!(f, "frame {}", Hex(bytes)),
+            Line::Buffer { bytes } => write!(f, "buffer {}", Hex(bytes)),
             Line::Bad { number } => write!(f, "bad line {number}"),
         }
     }
 }
 
-// Prints a line.
-pub(crate) fn print_line(rt: &HostRuntime, line: Line<'_>) -> anyhow::Result<()> {
-    println!(rt; "{line}")?;
-    Ok(())
+impl From<Answer> for Line<'_> {
+    ghost from_gives = { λ answer line. line ≡ line_of answer };
+
+    fn from(answer: Answer) -> Self {
+        match answer {
+            Answer::Accepted => Line::Accepted,
+            Answer::Refused(refusal) => Line::Refused { refusal },
+            Answer::OutOfTurn => Line::OutOfTurn,
+        }
+    }
 }
 
-// The line of a refused dictionary.
+// The line of a refused dictionary, for which each program has its own kind of line.
 pub(crate) fn dictionary_line<'a>(refusal: Refusal) -> Line<'a>
     ensures { result ≡ Line.Dictionary refusal }
 {
