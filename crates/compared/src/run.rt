@@ -1,5 +1,7 @@
 // The cutter and lists of calls, for the comparison.
 ghost use Rattle.std.specs.Prelude.{◌≡◌, ◌≤◌, length};
+ghost use Rattle.wire.specs.Streams.{front_of};
+ghost use Rattle.compared.specs.Cutting.{number, kind_after, count_after, place_after, tag_after};
 
 use crate::asked::{Asked, next_asked};
 use crate::taken::Taken;
@@ -18,7 +20,13 @@ pub extern "C" fn compared_cut(
     count: &mut usize,
     place: &mut usize,
     tag: &mut u32,
-) -> u8 {
+) -> u8
+    ensures answer { result ≡ number (front_of stream.now) }
+    ensures told_kind { kind.new ≡ kind_after (front_of stream.now) kind.old }
+    ensures told_count { count.new ≡ count_after (front_of stream.now) count.old }
+    ensures told_place { place.new ≡ place_after (front_of stream.now) place.old }
+    ensures told_tag { tag.new ≡ tag_after (front_of stream.now) tag.old }
+{
     match cut(stream) {
         Ok(Piece::Missing(missing)) => {
             *kind = 0;

@@ -1,5 +1,5 @@
 // Bytes taken one after the other from the front of bytes.
-ghost use Rattle.std.specs.Prelude.{◌≤◌, length};
+ghost use Rattle.std.specs.Prelude.{◌≡◌, ◌<◌, ◌≤◌, length, take, drop, MatchOption};
 
 // What is still to be taken.
 #[derive(Clone, Copy)]
@@ -10,7 +10,8 @@ pub struct Taken<'a> {
 impl<'a> Taken<'a> {
     // As many bytes as the array has.
     pub fn array<const W: usize>(&mut self) -> Option<[u8; W]>
-        ensures { length self.new.rest.now ≤ length self.old.rest.now }
+        ensures taken { MatchOption result (length self.old.rest.now < W) (λ found. (found ≡ take W self.old.rest.now) × (self.new.rest.now ≡ drop W self.old.rest.now)) }
+        ensures less { length self.new.rest.now ≤ length self.old.rest.now }
     {
         let (found, rest) = self.rest.split_first_chunk()?;
         self.rest = rest;
@@ -19,7 +20,8 @@ impl<'a> Taken<'a> {
 
     // So many bytes.
     pub fn part(&mut self, count: usize) -> Option<&'a [u8]>
-        ensures { length self.new.rest.now ≤ length self.old.rest.now }
+        ensures taken { MatchOption result (length self.old.rest.now < count) (λ found. (found.now ≡ take count self.old.rest.now) × (self.new.rest.now ≡ drop count self.old.rest.now)) }
+        ensures less { length self.new.rest.now ≤ length self.old.rest.now }
     {
         let (found, rest) = self.rest.split_at_checked(count)?;
         self.rest = rest;
