@@ -7,7 +7,7 @@ use crate::asked::{Asked, next_asked};
 use crate::taken::Taken;
 use base::BASE;
 use replay::{Answer, Form, make};
-use wire::{Piece, cut};
+use wire::{Piece, cut, le_put};
 
 // How many bytes an answer has.
 const ANSWER: usize = 16;
@@ -58,8 +58,8 @@ fn put_answer(to: &mut [u8], answer: Answer)
         Answer::Refused(refusal) => {
             to[0] = 1;
             to[1] = refusal.reason.number();
-            to[4..8].copy_from_slice(&refusal.tag.to_le_bytes());
-            to[8..16].copy_from_slice(&refusal.place.to_le_bytes());
+            le_put(&mut to[4..8], refusal.tag as u64);
+            le_put(&mut to[8..16], refusal.place as u64);
         }
     }
 }

@@ -3,7 +3,8 @@ ghost use Rattle.std.specs.Prelude.{◌≡◌};
 ghost use Rattle.schema.specs.Seen.{length_at};
 ghost use Rattle.lines.specs.Held.{fields_in};
 
-use dictionary::{FieldLine, Line, Lines};
+use dictionary::{FieldLine, Line, Lines, seen_field};
+use wire::tail;
 
 // The fields of a block that are still to come.
 #[derive(Clone, Copy)]
@@ -73,14 +74,9 @@ impl<'a> Iterator for SeenFields<'a> {
     ghost remaining = { item_count seen_fields_left };
 
     fn next(&mut self) -> Option<FieldLine<'a>> {
-        let mut fields = self.fields;
-        match fields.next() {
-            Some(field) if field.since <= self.version => {
-                self.fields = fields;
-                Some(field)
-            }
-            _ => None,
-        }
+        let field = seen_field(self.fields.rest, self.version)?;
+        self.fields.rest = tail(self.fields.rest, Line::Field(field).size());
+        Some(field)
     }
 }
 

@@ -6,6 +6,8 @@ ghost use Rattle.std.specs.Prelude.{◌≡◌, ◌+◌, ◌-◌, ◌<◌, ◌≤
 ghost use Rattle.wire.specs.Numbers.{le_bytes};
 ghost use Rattle.moves.specs.Moves.{patched, shifted};
 
+use wire::le_put;
+
 // Puts the bytes x at p.
 pub fn put(buffer: &mut [u8], p: usize, x: &[u8])
     requires { p + length x.now ≤ length buffer.old }
@@ -30,7 +32,7 @@ pub fn put_number(buffer: &mut [u8], p: usize, n: u16)
     ensures value { buffer.new ≡ patched p (le_bytes 2 n) buffer.old }
     ensures len { length buffer.new ≡ length buffer.old }
 {
-    put(buffer, p, &n.to_le_bytes());
+    le_put(&mut buffer[p..p + 2], n as u64);
 }
 
 // Puts one byte at p.

@@ -9,14 +9,16 @@ ghost use Rattle.numbers.specs.Kinds.{numeric_kind};
 
 use crate::numeric::{Numeric, Width};
 use types::{Pattern, Value};
-use wire::{Reason, Refusal, le_read, upto};
+use wire::{Reason, Refusal, le_put, le_read, upto};
 
 impl Width {
     // The bits in as many bytes as the width has, the little end first.
     pub(crate) fn stored(self, bits: u64) -> Pattern
         ensures { pattern_bytes result ≡ le_bytes (bytes_in self) bits }
     {
-        Pattern::of(upto(&bits.to_le_bytes(), self.bytes()))
+        let mut held = [0; 8];
+        le_put(&mut held, bits);
+        Pattern::of(upto(&held, self.bytes()))
     }
 }
 
