@@ -3,17 +3,23 @@ use crate::answers::number_of;
 use std::alloc::{AllocError, Global};
 
 // A digit in hexadecimal; 0 for what is none.
-fn digit(c: u8) -> u8 {
-    char::from(c)
-        .to_digit(16)
+fn digit(c: char) -> u8 {
+    c.to_digit(16)
         .and_then(|n| u8::try_from(n).ok())
         .unwrap_or(0)
 }
 
-// Puts the bytes of a word in hexadecimal. Here what is no digit counts as 0.
+// Puts the bytes of a word in hexadecimal, two characters to a byte. Here what is no digit counts as 0.
 fn put_hex(bytes: &mut Vec<u8>, word: &str) -> Result<(), AllocError> {
-    for pair in word.as_bytes().chunks_exact(2) {
-        bytes.push(pair.iter().fold(0, |byte, c| digit(*c) | byte << 4))?;
+    let mut high = None;
+    for c in word.chars() {
+        high = match high {
+            None => Some(digit(c)),
+            Some(first) => {
+                bytes.push(digit(c) | first << 4)?;
+                None
+            }
+        };
     }
     Ok(())
 }
