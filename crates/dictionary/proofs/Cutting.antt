@@ -1,5 +1,6 @@
 -- One step of a walk that cuts pieces off its bytes.
-use Rattle.std.proofs.Common.{◌≡◌, ℕ, ◌+◌, ◌-◌, ◌<◌, ◌≤◌, List, [], ◌∷◌, length, drop, Some, None, Option, sym, refl, ap, ◌∙◌, arith, length-drop}
+use Rattle.std.proofs.Common.{◌≡◌, ◌==◌, true, ℕ, ◌+◌, ◌-◌, ◌<◌, ◌≤◌, List, [], ◌∷◌, length, drop, Some, None, Option, sym, refl, ap, ◌∙◌, arith, length-drop}
+use Rattle.std.proofs.lemmas.Bool.{eqb-true}
 use Rattle.schema.specs.Lines.{Line, line_size, first_line, lines, onward, there}
 use Rattle.schema.specs.Sections.{Section, section_size, first_section, sections}
 use Rattle.schema.proofs.Pieces.{Pieces}
@@ -83,6 +84,11 @@ sections_end = ends first_section section_size sections section_pieces
 
 pub sections_go_on : (s rest : List ℕ) (x : Section) (n : ℕ) → Some x ≡ first_section s → n ≡ section_size x → rest ≡ drop n s → ((there (sections s) ≡ x ∷ there (sections rest)) × (length rest + section_size x ≤ length s)) × ((first_section s ≡ Some x) × (rest ≡ drop (section_size x) s))
 sections_go_on = goes_on first_section section_size sections section_pieces
+
+-- where no bytes are left there is no line, and a walk over them is at its end
+pub no_bytes : (s : List ℕ) → (length s == 0) ≡ true → ((there (lines s) ≡ []) × (there (lines s) ≡ [])) × ((first_line s ≡ None) × (s ≡ s))
+no_bytes [] e = lines_end [] refl
+no_bytes (b ∷ s) e = let z = eqb-true (length (b ∷ s)) 0 e in absurd (omega arith)
 
 -- behind the first of a list there is less
 pub fewer : {X : Type 0} (l m : List X) (x : X) → l ≡ x ∷ m → length m < length l

@@ -1,9 +1,6 @@
 -- Bytes in hexadecimal, one after another.
-use Rattle.std.proofs.Common.{◌≡◌, ℕ, ◌+◌, ◌<◌, true, false, List, [], ◌∷◌, ◌++◌, Some, Option, length, get_or, take, sym, refl, ap, ◌∙◌}
+use Rattle.std.proofs.Common.{◌≡◌, ℕ, ◌+◌, ◌<◌, List, [], ◌∷◌, ◌++◌, length, get_or, take, sym, refl, ap, ◌∙◌}
 use Rattle.std.proofs.lemmas.List.{append_assoc, append-nil, take_more}
-use Rattle.std.proofs.lemmas.Fmt.{hex_byte}
-use Rattle.std.specs.Fmt.{digits, format_spec, padded_integral}
-use Rattle.std.specs.Option.{option_map}
 use Rattle.printing.specs.Written.{pair, pairs}
 
 pairs_append : (s t : List ℕ) → pairs (s ++ t) ≡ pairs s ++ pairs t
@@ -15,9 +12,3 @@ one_more s i h =
     ap (λ (x : List ℕ). pairs (take i s) ++ x) (sym (append-nil (pair (get_or s i 0))))
     ∙ sym (pairs_append (take i s) (get_or s i 0 ∷ []))
     ∙ ap pairs (sym (take_more s i 0 h))
-
--- what `{:02X}` writes of a byte
-pub byte_text : (o : Option (List ℕ)) (b : ℕ) → b < 256 → o ≡ Some (digits 16 true b) → option_map (padded_integral (format_spec 32 0 4 2 18446744073709551615) false []) o ≡ Some (pair b)
-byte_text o b small h =
-    ap (option_map (padded_integral (format_spec 32 0 4 2 18446744073709551615) false [])) h
-    ∙ ap (λ (t : List ℕ). Some t) (hex_byte true b small)

@@ -1,20 +1,6 @@
-use Rattle.std.proofs.Common.{sym, arith}
-use Rattle.dictionary.specs.Shown.{shown_line}
-use Rattle.dictionary.proofs.Cutting.{line_fits, lines_end, lines_go_on, fewer}
+use Rattle.std.proofs.Common.{◌∙◌, sym}
+use Rattle.dictionary.proofs.Cutting.{no_bytes}
 use Rattle.dictionary.proofs.lines.LinesIterator.next.Goals as goal
 
-pub returns-in_err-line-clause-steps : goal.returns-in_err-line-clause-steps
-returns-in_err-line-clause-steps c = rw c.from_residual.ensures (lines_end c.args.self.now.rest.now c.in_err-line.ensures)
-
-pub tail-self-requires : goal.tail-self-requires
-tail-self-requires c =
-    let fits = line_fits c.args.self.now.rest.now (shown_line c.in_ok-line.line) (sym c.in_ok-line.ensures) in
-    omega (arith, c.size.ensures)
-
-pub returns-clause-steps : goal.returns-clause-steps
-returns-clause-steps c = lines_go_on c.args.self.now.rest.now c.tail-self.result.now (shown_line c.in_ok-line.line) c.size.result c.in_ok-line.ensures c.size.ensures c.tail-self.ensures.value
-
-pub returns-clause-goes : goal.returns-clause-goes
-returns-clause-goes c =
-    let step = lines_go_on c.args.self.now.rest.now c.tail-self.result.now (shown_line c.in_ok-line.line) c.size.result c.in_ok-line.ensures c.size.ensures c.tail-self.ensures.value in
-    record { on = λ _. (tt, tt, fewer _ _ _ step.0.0); keeps = tt; rests = λ _. tt }
+pub returns-then-is_empty-clause-steps : goal.returns-then-is_empty-clause-steps
+returns-then-is_empty-clause-steps c = no_bytes c.args.self.now.rest.now (sym c.is_empty.ensures ∙ c.if-is_empty.true)
